@@ -1,0 +1,100 @@
+-- The P cases of document 01, "Both sides of each line": one table, one statement, computed.
+-- Assumes nothing.
+use Prim.Native.Nat.{ℕ}
+use Prim.Native.String.{String}
+use mathlib.Core.Bool.{Bool, true, false, _&&_}
+use mathlib.Core.List.{List, [], _∷_, _++_, map}
+use lib.Dec.{T, eqb}
+use lib.ListN.{replicate}
+use Rattle.meaning.specs.declared.Answer.{Answer}
+use Rattle.meaning.specs.Lists.{all, joinMap, same, bytes}
+use Rattle.meaning.specs.Sets.{Outcome, outcome}
+use Rattle.meaning.specs.Sets.Outcome.{refused, accepted}
+use Rattle.meaning.specs.Document.{Paragraph, writePiece, utf8}
+use Rattle.meaning.specs.Conversion.{documentOf, answer}
+use Rattle.meaning.specs.Computed.{computed}
+use Rattle.meaning.proofs.Files.{Block, gsi, block, subtitle, blocksOf, fileOf, files}
+
+-- a break mode and a file, the answer's number and place, and what stands in each paragraph
+record Case : Type 0 where
+  mode : ℕ
+  file : List ℕ
+  number : ℕ
+  place : ℕ
+  paragraphs : List String
+
+paragraphsIn : Outcome → List (List ℕ)
+paragraphsIn (refused n k) = []
+paragraphsIn (accepted p) = map (λ (q : Paragraph). joinMap writePiece (q .pieces)) (documentOf 25 p .paragraphs)
+
+sameTexts : List (List ℕ) → List String → Bool
+sameTexts [] [] = true
+sameTexts [] (t ∷ ts) = false
+sameTexts (s ∷ ss) [] = false
+sameTexts (s ∷ ss) (t ∷ ts) = elim (same s (joinMap utf8 (bytes t))) [ true ↦ sameTexts ss ts | false ↦ false ]
+
+sameAnswer : Answer → ℕ → ℕ → Bool
+sameAnswer a number place = eqb (a .number) number && eqb (a .place) place
+
+holds : Case → Bool
+holds c =
+    sameAnswer (answer (c .mode) (c .file) 65536) (c .number) (c .place)
+    && sameTexts (paragraphsIn (outcome (c .mode) (c .file))) (c .paragraphs)
+
+refusal : ℕ → List ℕ → ℕ → ℕ → Case
+refusal mode file number place = record { mode = mode; file = file; number = number; place = place; paragraphs = [] }
+
+acceptance : ℕ → List ℕ → List String → Case
+acceptance mode file paragraphs = record { mode = mode; file = file; number = 0; place = 0; paragraphs = paragraphs }
+
+-- a file of one subtitle
+one : ℕ → List ℕ → List ℕ
+one vp text = fileOf (subtitle vp text ∷ [])
+
+-- a file of one subtitle in two blocks
+two : ℕ → List ℕ → List ℕ → List ℕ
+two vp front back =
+    fileOf
+    (record { sn = 1; ebn = 0; seconds = 3; frames = 4; vp = vp; cf = 0; text = front }
+    ∷ record { sn = 1; ebn = 255; seconds = 3; frames = 4; vp = vp; cf = 0; text = back }
+    ∷ [])
+
+-- a row of 64 blanks, then a row of 46 and C2h: 112 bytes
+full : List ℕ
+full = replicate 64 32 ++ (138 ∷ []) ++ replicate 46 32 ++ (194 ∷ [])
+
+cases : List Case
+cases =
+    -- TNB 00002, one block
+    refusal 1 (gsi 2 ++ block (subtitle 20 (65 ∷ []))) 6 0
+    -- TCO equal to TCI; a second set with the same SN
+    ∷ refusal 1 (fileOf (record { sn = 1; ebn = 255; seconds = 1; frames = 2; vp = 20; cf = 0; text = 65 ∷ [] } ∷ [])) 11 0
+    ∷ refusal 1 (fileOf (subtitle 20 (65 ∷ []) ∷ subtitle 20 (65 ∷ []) ∷ [])) 9 1
+    -- single height, VP 23; double height, VP 22 and 23
+    ∷ acceptance 1 (one 23 (65 ∷ [])) ("<tt:span style=\"s007\">A</tt:span>" ∷ [])
+    ∷ acceptance 1 (one 22 (13 ∷ 65 ∷ [])) ("<tt:span style=\"s071\">A</tt:span>" ∷ [])
+    ∷ refusal 1 (one 23 (13 ∷ 65 ∷ [])) 15 0
+    -- C2h last in block 00h, after 112 bytes and before 8Fh; 65h first in block FFh
+    ∷ acceptance 1 (two 22 full (101 ∷ [])) ("<tt:br/><tt:span style=\"s007\">é</tt:span>" ∷ [])
+    ∷ acceptance 1 (two 23 (194 ∷ []) (101 ∷ [])) ("<tt:span style=\"s007\">é</tt:span>" ∷ [])
+    -- C2h, 20h
+    ∷ refusal 1 (one 23 (194 ∷ 32 ∷ [])) 13 0
+    -- 64 cells and 65
+    ∷ acceptance 1 (one 23 (replicate 63 32 ++ (65 ∷ []))) ("<tt:span style=\"s007\">A</tt:span>" ∷ [])
+    ∷ refusal 1 (one 23 (replicate 64 32 ++ (65 ∷ []))) 15 0
+    -- double height, a lone 8Ah between words
+    ∷ acceptance 1 (one 20 (13 ∷ 65 ∷ 138 ∷ 66 ∷ [])) ("<tt:span style=\"s071\">A</tt:span><tt:br/><tt:span style=\"s071\">B</tt:span>" ∷ [])
+    ∷ refusal 2 (one 20 (13 ∷ 65 ∷ 138 ∷ 66 ∷ [])) 14 0
+    -- spans
+    ∷ acceptance 1 (one 23 (1 ∷ 65 ∷ 2 ∷ 3 ∷ 66 ∷ [])) ("<tt:span style=\"s001\">A  </tt:span><tt:span style=\"s003\">B</tt:span>" ∷ [])
+    ∷ acceptance 1 (one 23 (1 ∷ 65 ∷ 7 ∷ 32 ∷ 1 ∷ 66 ∷ [])) ("<tt:span style=\"s001\">A   B</tt:span>" ∷ [])
+    ∷ acceptance 1 (one 23 (1 ∷ 29 ∷ 7 ∷ 65 ∷ [])) ("<tt:span style=\"s015\">  A</tt:span>" ∷ [])
+    -- a comment set with frame 99
+    ∷ acceptance 1 (fileOf (record { sn = 1; ebn = 255; seconds = 1; frames = 99; vp = 20; cf = 1; text = 65 ∷ [] } ∷ [])) []
+    -- not in document 01's list: what stands after 8Fh is no text
+    ∷ acceptance 1 (one 23 (65 ∷ 143 ∷ 66 ∷ [])) ("<tt:span style=\"s007\">A</tt:span>" ∷ [])
+    ∷ []
+
+right : T (all holds cases)
+unfolding computed files paragraphsIn sameTexts sameAnswer holds refusal acceptance one two full cases
+right = tt

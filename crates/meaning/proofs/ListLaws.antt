@@ -1,0 +1,87 @@
+-- A property of every element of a list, and laws of the tests over lists.
+-- Assumes nothing.
+use Prim.Native.Nat.{ℕ, zero, suc, _<_}
+use native.Mathlib.Omega.{arith}
+use native.Mathlib.Nat.{le-of-suc-le-suc, not-suc-le-zero}
+use mathlib.Core.Path.{_≡_, refl}
+use mathlib.Core.Bool.{Bool, true, false}
+use mathlib.Core.List.{List, [], _∷_, _++_, map}
+use lib.ListN.{length, getD, replicate}
+use Rattle.meaning.specs.Lists.{all, ontoFirst, firstBroken}
+use Rattle.meaning.proofs.Logic.{false-not-true}
+
+pub data All {A : Type 0} (P : A → Type 0) : List A → Type 0 where
+  nil : All P []
+  cons : {x : A} {xs : List A} → P x → All P xs → All P (x ∷ xs)
+
+module _ {A : Type 0} {P : A → Type 0} where
+  pub all-append : {xs ys : List A} → All P xs → All P ys → All P (xs ++ ys)
+  all-append nil h = h
+  all-append (cons p k) h = cons p (all-append k h)
+
+  pub all-left : (xs ys : List A) → All P (xs ++ ys) → All P xs
+  all-left [] ys h = nil
+  all-left (x ∷ xs) ys (cons p h) = cons p (all-left xs ys h)
+
+  pub all-right : (xs ys : List A) → All P (xs ++ ys) → All P ys
+  all-right [] ys h = h
+  all-right (x ∷ xs) ys (cons p h) = all-right xs ys h
+
+  pub all-copies : (n : ℕ) (x : A) → P x → All P (replicate n x)
+  all-copies zero x p = nil
+  all-copies (suc n) x p = cons p (all-copies n x p)
+
+  pub all-at : {xs : List A} → All P xs → (d : A) → P d → (k : ℕ) → P (getD xs k d)
+  all-at nil d q k = q
+  all-at (cons p h) d q zero = p
+  all-at (cons p h) d q (suc k) = all-at h d q k
+
+pub all-map : {A B : Type 0} {P : A → Type 0} {Q : B → Type 0} (f : A → B) → ((x : A) → P x → Q (f x)) → {xs : List A} → All P xs → All Q (map f xs)
+all-map f g nil = nil
+all-map f g (cons p h) = cons (g _ p) (all-map f g h)
+
+pub all-onto : {A : Type 0} {P : A → Type 0} (x : A) {xss : List (List A)} → P x → All (All P) xss → All (All P) (ontoFirst x xss)
+unfolding ontoFirst
+all-onto x p nil = cons (cons p nil) nil
+all-onto x p (cons q h) = cons (cons p q) h
+
+-- the test `all`, clause by clause
+module _ {A : Type 0} (p : A → Bool) where
+  pub test-nil : all p [] ≡ true
+  unfolding all
+  test-nil = refl
+
+  pub test-cons : (x : A) (xs : List A) → p x ≡ true → all p xs ≡ true → all p (x ∷ xs) ≡ true
+  unfolding all
+  test-cons x xs e h = rw (e, all) h
+
+  pub test-split : (x : A) (xs : List A) → all p (x ∷ xs) ≡ true → (p x ≡ true) × (all p xs ≡ true)
+  unfolding all
+  test-split x xs e = split (p x) refl e
+    where
+      split : (b : Bool) → p x ≡ b → elim b [ true ↦ all p xs | false ↦ false ] ≡ true → (p x ≡ true) × (all p xs ≡ true)
+      split true f g = (f, g)
+      split false f g = absurd (false-not-true g)
+
+  pub test-append : (xs ys : List A) → all p xs ≡ true → all p ys ≡ true → all p (xs ++ ys) ≡ true
+  test-append [] ys h k = k
+  test-append (x ∷ xs) ys h k = let s = test-split x xs h in test-cons x (xs ++ ys) (s .0) (test-append xs ys (s .1) k)
+
+  -- a test that every element passes holds at each place
+  pub test-at : (xs : List A) (d : A) → all p xs ≡ true → (k : ℕ) → k < length xs → p (getD xs k d) ≡ true
+  test-at [] d t k h = absurd (not-suc-le-zero h)
+  test-at (x ∷ xs) d t zero h = test-split x xs t .0
+  test-at (x ∷ xs) d t (suc k) h = test-at xs d (test-split x xs t .1) k (le-of-suc-le-suc h)
+
+  pub test-all : {xs : List A} → All (λ (x : A). p x ≡ true) xs → all p xs ≡ true
+  test-all nil = test-nil
+  test-all (cons {x} {xs} e h) = test-cons x xs e (test-all h)
+
+-- where no rule of a list is broken, each holds
+pub unbroken : (n : ℕ) (b : Bool) (rs : List (ℕ × Bool)) → firstBroken ((suc n, b) ∷ rs) ≡ 0 → (b ≡ true) × (firstBroken rs ≡ 0)
+unfolding firstBroken
+unbroken n true rs e = (refl, e)
+unbroken n false rs e = absurd (no-number e)
+  where
+    no-number : suc n ≡ 0 → ⊥
+    no-number z = omega arith

@@ -1,0 +1,13 @@
+-- `Look::white_on_black` gives white on black.
+-- Assumes nothing.
+use borrow.Author.Needs.{needs}
+use Rattle.meaning.specs.Looks.{whiteOnBlack}
+use Rattle.meaning.proofs.Look.white_on_black.Statement.{statement}
+use Rattle.meaning.proofs.Look.white_on_black.Tie as tie
+
+returns : tie.Need-returns
+unfolding whiteOnBlack
+returns c = search needs
+
+pub white-on-black-spec : {M : Type 1} → statement M
+white-on-black-spec = tie.close (tie.spec returns)

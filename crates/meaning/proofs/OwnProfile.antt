@@ -1,0 +1,116 @@
+-- The document made of an accepted file's subtitles is one of the profile, for a file of bytes.
+-- Assumes nothing.
+use Prim.Native.Nat.{ℕ, zero, suc, _+_, _*_, _≤_, _<_}
+use native.Mathlib.Omega.{arith}
+use mathlib.Core.Path.{_≡_, refl}
+use mathlib.Core.Bool.{Bool, true, false, _&&_}
+use mathlib.Core.List.{List, [], _∷_, _++_, map}
+use lib.Dec.{ltb, leb}
+use lib.ListN.{getD, take, drop, replicate}
+use lib.Seq.{getD-drop, getD-take}
+use borrow.Author.Tests.{lt-ltb, le-leb}
+use Rattle.meaning.specs.Lists.{all}
+use Rattle.meaning.specs.Looks.{pack}
+use Rattle.meaning.specs.Codes.{tokens}
+use Rattle.meaning.specs.Rows.{isDouble}
+use Rattle.meaning.specs.Cells.{Cell, shown}
+use Rattle.meaning.specs.Spans.{spans, lookOf}
+use Rattle.meaning.specs.Blocks.{blocks, sn, tci, tco, timesRight, isComment, firstBlockRule}
+use Rattle.meaning.specs.Sets.{Subtitle, subtitleOf}
+use Rattle.meaning.specs.Document.{Piece, Paragraph}
+use Rattle.meaning.specs.Document.Piece.{span, br}
+use Rattle.meaning.specs.Conversion.{spanOf, rowSpans, laterRows, rowPieces, paragraphOf}
+use Rattle.meaning.specs.Profile.{isScalar, pieceInProfile, paragraphsInProfile}
+use Rattle.meaning.specs.Demands.{Bytes}
+use Rattle.meaning.proofs.Logic.{and-true, and-parts}
+use Rattle.meaning.proofs.ListLaws.{All, all-append, all-copies, all-map, test-all, unbroken}
+use Rattle.meaning.proofs.ListLaws.All.{nil, cons}
+use Rattle.meaning.proofs.Pieces.{fillersOf, pieces-are}
+use Rattle.meaning.proofs.Trimming.{all-shown}
+use Rattle.meaning.proofs.CellFacts.{Sound, rows-sound, spans-all, span-bits, pack-small}
+use Rattle.meaning.proofs.OwnRows.{SoundRows}
+use Rattle.meaning.proofs.Walk.{Made, Ascends}
+
+-- blocks of a file of bytes are of bytes
+drop-bytes : (n : ℕ) (s : List ℕ) → Bytes s → Bytes (drop n s)
+drop-bytes zero s h i = h i
+drop-bytes (suc n) [] h i = h i
+drop-bytes (suc n) (x ∷ s) h i = drop-bytes n s (λ k. h (suc k)) i
+
+take-bytes : (n : ℕ) (s : List ℕ) → Bytes s → Bytes (take n s)
+take-bytes zero s h i = omega arith
+take-bytes (suc n) [] h i = h i
+take-bytes (suc n) (x ∷ s) h zero = h 0
+take-bytes (suc n) (x ∷ s) h (suc i) = take-bytes n s (λ k. h (suc k)) i
+
+pub blocks-bytes : (n : ℕ) (s : List ℕ) → Bytes s → All Bytes (blocks n s)
+unfolding blocks
+blocks-bytes zero s h = nil
+blocks-bytes (suc n) s h = cons (take-bytes _ s h) (blocks-bytes n _ (drop-bytes _ s h))
+
+pub file-bytes : (n k : ℕ) (s : List ℕ) → Bytes s → All Bytes (blocks n (drop k s))
+file-bytes n k s h = blocks-bytes n (drop k s) (drop-bytes k s h)
+
+-- the pieces of a paragraph
+abbrev InProfile : Piece → Type 0
+InProfile p = pieceInProfile p ≡ true
+
+characters-right : {g : List Cell} → All Sound g → all isScalar (map (λ (c : Cell). c .character) g) ≡ true
+characters-right h = test-all isScalar (all-map (λ (c : Cell). c .character) (λ c s. s .character) h)
+
+span-right : (g : List Cell) → All Sound g → InProfile (span (spanOf g))
+unfolding pieceInProfile spanOf
+span-right g h = and-true _ _ (lt-ltb (pack (lookOf g)) 128 (pack-small (lookOf g) (span-bits g h))) (characters-right h)
+
+row-right : (row : List Cell) → All Sound row → All InProfile (map span (rowSpans row))
+unfolding rowSpans
+row-right row h = all-map span (λ s e. e) (all-map spanOf (λ g k. span-right g k) (spans-all (shown row) (all-shown row h)))
+
+later-right : {rs : List (List Cell)} → All (All Sound) rs → All InProfile (laterRows rs)
+unfolding laterRows pieceInProfile
+later-right nil = nil
+later-right (cons p h) = cons refl (all-append (row-right _ p) (later-right h))
+
+rows-right : {rs : List (List Cell)} → All (All Sound) rs → All InProfile (rowPieces rs)
+unfolding rowPieces
+rows-right nil = nil
+rows-right (cons p h) = all-append (row-right _ p) (later-right h)
+
+br-right : InProfile br
+unfolding pieceInProfile
+br-right = refl
+
+pieces-right : (s : Subtitle) → SoundRows s → all pieceInProfile (paragraphOf s .pieces) ≡ true
+pieces-right s h = rw (pieces-are s) (test-all pieceInProfile (all-append (rows-right h) (all-copies (fillersOf s) br br-right)))
+
+-- rule 11
+times-right :
+    (rate least : ℕ) (b : List ℕ) → isComment b ≡ false → firstBlockRule rate least b ≡ 0 → timesRight rate (tci b) (tco b) ≡ true
+unfolding firstBlockRule
+times-right rate least b c e =
+    let r₈ = unbroken _ _ _ e in
+    let r₉ = unbroken _ _ _ (r₈ .1) in
+    let r₁₀ = unbroken _ _ _ (rw c at (r₉ .1)) in
+    unbroken _ _ _ (r₁₀ .1) .0
+
+sn-right : (b : List ℕ) → Bytes b → sn b < 65536
+unfolding sn
+sn-right b h = omega (arith, h 1, h 2)
+
+pub made-sound : (mode rate : ℕ) (s : Subtitle) → Made Bytes mode rate s → SoundRows s
+unfolding subtitleOf
+made-sound mode rate s m = rw (m .made) (rows-sound mode (isDouble (tokens (m .text))) (m .text))
+
+pub own-paragraphs :
+    (mode rate lo hi : ℕ) (ss : List Subtitle) → All (Made Bytes mode rate) ss → Ascends lo ss hi
+    → paragraphsInProfile rate lo (map paragraphOf ss) ≡ true
+unfolding paragraphsInProfile paragraphOf
+own-paragraphs mode rate lo hi [] k a = refl
+own-paragraphs mode rate lo hi (s ∷ ss) (cons m k) a =
+    and-true _ _
+    (and-true _ _
+    (and-true _ _
+    (and-true _ _ (le-leb lo (sn (s .first)) (a .0)) (lt-ltb (sn (s .first)) 65536 (sn-right (s .first) (m .opened .block))))
+    (times-right rate (m .opened .least) (s .first) (m .subtitle) (m .opened .rule)))
+    (pieces-right s (made-sound mode rate s m)))
+    (own-paragraphs mode rate _ hi ss k (a .1))

@@ -1,0 +1,51 @@
+-- The GSI block, and the rules 1 to 6 over a whole file: document 01, "The file" and "What comes back".
+-- Assumes nothing.
+use Prim.Native.Nat.{ℕ, zero, suc, _+_, _*_, _-_, _/_, _%_}
+use mathlib.Core.Bool.{Bool, true, false, _&&_, _||_}
+use mathlib.Core.List.{List, [], _∷_}
+use lib.Dec.{leb, eqb}
+use lib.ListN.{length, getD, take, drop}
+use Rattle.meaning.specs.Lists.{all, same, bytes, firstBroken}
+
+-- n bytes from an offset
+unfoldable pub field : ℕ → ℕ → List ℕ → List ℕ
+field from n s = take n (drop from s)
+
+-- DFC, 3 to 10: the frames of a second, 0 where it is neither of the two
+unfoldable pub rateOf : List ℕ → ℕ
+rateOf file =
+    elim (same (field 3 8 file) (bytes "STL25.01")) [
+      | true ↦ 25
+      | false ↦ elim (same (field 3 8 file) (bytes "STL30.01")) [ true ↦ 30 | false ↦ 0 ]
+    ]
+
+unfoldable pub isRate : ℕ → Bool
+isRate n = eqb n 25 || eqb n 30
+
+-- the blocks present
+unfoldable pub blockCount : List ℕ → ℕ
+blockCount file = (length file - 1024) / 128
+
+unfoldable pub isDigit : ℕ → Bool
+isDigit c = leb 48 c && leb c 57
+
+-- the number that decimal digits write, after those before
+unfoldable pub valueFrom : ℕ → List ℕ → ℕ
+valueFrom v [] = v
+valueFrom v (c ∷ cs) = valueFrom (10 * v + (c - 48)) cs
+
+-- TNB, 238 to 242
+unfoldable pub tnb : List ℕ → ℕ
+tnb file = valueFrom 0 (field 238 5 file)
+
+-- the number of the first of the rules 1 to 6 that a break mode and a file break, or 0
+unfoldable pub fileRule : ℕ → List ℕ → ℕ
+fileRule mode file =
+    firstBroken
+    ((1, eqb mode 1 || eqb mode 2)
+    ∷ (2, leb 1024 (length file) && eqb ((length file - 1024) % 128) 0)
+    ∷ (3, isRate (rateOf file))
+    ∷ (4, eqb (getD file 11 0) 49 || eqb (getD file 11 0) 50)
+    ∷ (5, same (field 12 2 file) (bytes "00"))
+    ∷ (6, all isDigit (field 238 5 file) && eqb (tnb file) (blockCount file))
+    ∷ [])

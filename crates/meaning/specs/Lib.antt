@@ -1,0 +1,16 @@
+pub mod Lists
+pub mod Tables
+pub mod Characters
+pub mod Codes
+pub mod Rows
+pub mod Looks
+pub mod Cells
+pub mod Spans
+pub mod Gsi
+pub mod Blocks
+pub mod Sets
+pub mod Document
+pub mod Conversion
+pub mod Profile
+pub mod Demands
+pub mod Computed

@@ -1,0 +1,89 @@
+-- Documents of the profile, their rows, and when one shows a file's rows: document 01, "The document, whole".
+-- Assumes nothing.
+use Prim.Native.Nat.{ℕ, zero, suc}
+use mathlib.Core.Path.{_≡_}
+use mathlib.Core.Bool.{Bool, true, false, _&&_, _||_}
+use mathlib.Core.List.{List, [], _∷_, _++_, map}
+use lib.Dec.{ltb, leb, eqb}
+use lib.ListN.{getD}
+use Rattle.meaning.specs.declared.Look.{Look}
+use Rattle.meaning.specs.Lists.{all, ontoFirst, bytes}
+use Rattle.meaning.specs.Looks.{unpack}
+use Rattle.meaning.specs.Cells.{Cell, isBlank, shown}
+use Rattle.meaning.specs.Gsi.{isRate}
+use Rattle.meaning.specs.Blocks.{timesRight}
+use Rattle.meaning.specs.Sets.{Subtitle}
+use Rattle.meaning.specs.Document.{Span, Piece, Paragraph, Document, render}
+use Rattle.meaning.specs.Document.Piece.{span, br}
+
+-- a code point that UTF-8 writes: no surrogate
+unfoldable pub isScalar : ℕ → Bool
+isScalar p = ltb p 55296 || (leb 57344 p && ltb p 1114112)
+
+-- a span carries one of the 128 s-styles; its characters are divided at will
+unfoldable pub pieceInProfile : Piece → Bool
+pieceInProfile (span s) = ltb (s .look) 128 && all isScalar (s .characters)
+pieceInProfile br = true
+
+-- the ids ascend and are SNs, the times are such that rule 11 holds; `least` is the least id that is allowed
+unfoldable pub paragraphsInProfile : ℕ → ℕ → List Paragraph → Bool
+paragraphsInProfile rate least [] = true
+paragraphsInProfile rate least (p ∷ ps) =
+    (leb least (p .number) && ltb (p .number) 65536 && timesRight rate (p .begin) (p .end) && all pieceInProfile (p .pieces))
+    && paragraphsInProfile rate (suc (p .number)) ps
+
+-- on data
+unfoldable pub inProfile : Document → Bool
+inProfile d = isRate (d .rate) && paragraphsInProfile (d .rate) 0 (d .paragraphs)
+
+-- on bytes: they are what is written of a document of the profile
+pub record Writes (written : List ℕ) (d : Document) : Type 0 where
+  pub profile : inProfile d ≡ true
+  pub bytes : written ≡ render d
+
+-- a tt:br ends a row, and the last row follows the last tt:br
+unfoldable pub documentRows : List Piece → List (List Span)
+documentRows [] = [] ∷ []
+documentRows (span s ∷ ps) = ontoFirst s (documentRows ps)
+documentRows (br ∷ ps) = [] ∷ documentRows ps
+
+-- a character is a cell with its span's look
+unfoldable pub spanCells : Span → List Cell
+spanCells s = map (λ (p : ℕ). record { character = p; look = unpack (s .look) }) (s .characters)
+
+unfoldable pub rowCells : List Span → List Cell
+rowCells [] = []
+rowCells (s ∷ ss) = spanCells s ++ rowCells ss
+
+-- equal in character, background, height and, blanks apart, colour
+pub record SameCell (c d : Cell) : Type 0 where
+  pub character : c .character ≡ d .character
+  pub background : c .look .background ≡ d .look .background
+  pub double : c .look .double ≡ d .look .double
+  pub colour : isBlank c ≡ false → c .look .colour ≡ d .look .colour
+
+-- equal in number and cell by cell
+pub data SameCells : List Cell → List Cell → Type 0 where
+  none : SameCells [] []
+  both : {c d : Cell} {cs ds : List Cell} → SameCell c d → SameCells cs ds → SameCells (c ∷ cs) (d ∷ ds)
+
+-- row i of subtitle k, and of paragraph k; one that is lacking is empty
+unfoldable pub subtitleRow : List Subtitle → ℕ → ℕ → List Cell
+subtitleRow ss k i = getD (getD (map (λ (s : Subtitle). s .rows) ss) k []) i []
+
+unfoldable pub paragraphRow : List Paragraph → ℕ → ℕ → List Span
+paragraphRow ps k i = getD (getD (map (λ (p : Paragraph). documentRows (p .pieces)) ps) k []) i []
+
+unfoldable pub Shows : Document → List Subtitle → Type 0
+Shows d ss = (k i : ℕ) → SameCells (shown (subtitleRow ss k i)) (shown (rowCells (paragraphRow (d .paragraphs) k i)))
+
+unfoldable pub startsWith : List ℕ → List ℕ → Bool
+startsWith [] s = true
+startsWith (a ∷ p) [] = false
+startsWith (a ∷ p) (b ∷ s) = elim (eqb a b) [ true ↦ startsWith p s | false ↦ false ]
+
+-- the tt:span elements of a document's bytes: the places where the tag opens
+unfoldable pub spanElements : List ℕ → ℕ
+spanElements [] = 0
+spanElements (b ∷ s) =
+    elim (startsWith (bytes "<tt:span ") (b ∷ s)) [ true ↦ suc (spanElements s) | false ↦ spanElements s ]

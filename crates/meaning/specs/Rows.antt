@@ -1,0 +1,76 @@
+-- A text's rows, and the rules 13 to 15: document 01, "Text to rows".
+-- Assumes nothing.
+use Prim.Native.Nat.{ℕ, zero, suc, _+_, _*_, _-_}
+use mathlib.Core.Bool.{Bool, true, false, cond, not, _&&_, _||_}
+use mathlib.Core.List.{List, [], _∷_}
+use lib.Dec.{leb, eqb}
+use lib.ListN.{length, getD}
+use Rattle.meaning.specs.declared.Token.{Token}
+use Rattle.meaning.specs.declared.Rows.{Rows}
+use Rattle.meaning.specs.declared.Lines.{Lines}
+use Rattle.meaning.specs.Lists.{all, any, ontoFirst, later, firstBroken}
+use Rattle.meaning.specs.Codes.{isListed, isCharacter, isRowEnd, isDoubleHeight}
+
+-- n row ends make n + 1 rows, empty ones counted
+unfoldable pub splitRows : List Token → List (List Token)
+splitRows [] = [] ∷ []
+splitRows (t ∷ ts) = elim (isRowEnd t) [ true ↦ [] ∷ splitRows ts | false ↦ ontoFirst t (splitRows ts) ]
+
+-- a subtitle is double height if 0Dh stands in its first row
+unfoldable pub isDouble : List Token → Bool
+isDouble ts = any isDoubleHeight (getD (splitRows ts) 0 [])
+
+-- in break mode 2 and double height a pair of 8Ah ends a row
+unfoldable pub breaksPaired : ℕ → List Token → Bool
+breaksPaired mode ts = eqb mode 2 && isDouble ts
+
+-- of each pair of row ends the first; `second` tells that the next row end is the second of its pair
+unfoldable pub pairedFrom : Bool → List Token → List Token
+pairedFrom second [] = []
+pairedFrom second (t ∷ ts) =
+    elim (isRowEnd t) [
+      | true ↦ elim second [ true ↦ pairedFrom false ts | false ↦ t ∷ pairedFrom true ts ]
+      | false ↦ t ∷ pairedFrom false ts
+    ]
+
+unfoldable pub rows : ℕ → List Token → List (List Token)
+rows mode ts = splitRows (cond (breaksPaired mode ts) (pairedFrom false ts) ts)
+
+-- no 0Dh after a code of 20h or above in its row
+unfoldable pub heightFirst : List Token → Bool
+heightFirst [] = true
+heightFirst (t ∷ ts) = elim (isCharacter t) [ true ↦ not (any isDoubleHeight ts) | false ↦ heightFirst ts ]
+
+-- every maximal run of row ends has even length; `odd` tells that an odd number of them stands just before
+unfoldable pub evenFrom : Bool → List Token → Bool
+evenFrom odd [] = not odd
+evenFrom odd (t ∷ ts) =
+    elim (isRowEnd t) [
+      | true ↦ evenFrom (not odd) ts
+      | false ↦ elim odd [ true ↦ false | false ↦ evenFrom false ts ]
+    ]
+
+-- rule 14: the height codes of each row, those of later rows, and the row ends of double height in break mode 2
+unfoldable pub heightsRight : ℕ → List Token → Bool
+heightsRight mode ts =
+    all heightFirst (rows mode ts)
+    && (isDouble ts || not (any (any isDoubleHeight) (later (rows mode ts))))
+    && (not (breaksPaired mode ts) || evenFrom false ts)
+
+-- rows and teletext lines are separate counts: a double row covers two lines
+unfoldable pub linesOf : Bool → Rows → Lines
+linesOf double n = record { 0 = cond double (2 * n .0) (n .0) }
+
+unfoldable pub rowCount : {A : Type 0} → List A → Rows
+rowCount rs = record { 0 = length rs }
+
+-- rule 15: a row has at most 64 cells, and the lines covered, from line VP on, end at line 23 at the latest
+unfoldable pub rowsFit : ℕ → ℕ → List Token → Bool
+rowsFit mode vp ts =
+    all (λ r. leb (length r) 64) (rows mode ts)
+    && leb (vp + linesOf (isDouble ts) (rowCount (rows mode ts)) .0) 24
+
+-- the number of the first of the rules 13 to 15 that a text breaks, or 0
+unfoldable pub textRule : ℕ → ℕ → List Token → ℕ
+textRule mode vp ts =
+    firstBroken ((13, all isListed ts) ∷ (14, heightsRight mode ts) ∷ (15, rowsFit mode vp ts) ∷ [])
