@@ -46,7 +46,7 @@ take-bytes (suc n) (x ∷ s) h (suc i) = take-bytes n s (λ k. h (suc k)) i
 pub blocks-bytes : (n : ℕ) (s : List ℕ) → Bytes s → All Bytes (blocks n s)
 unfolding blocks
 blocks-bytes zero s h = nil
-blocks-bytes (suc n) s h = cons (take-bytes _ s h) (blocks-bytes n _ (drop-bytes _ s h))
+blocks-bytes (suc n) s h = cons (take-bytes 128 s h) (blocks-bytes n (drop 128 s) (drop-bytes 128 s h))
 
 pub file-bytes : (n k : ℕ) (s : List ℕ) → Bytes s → All Bytes (blocks n (drop k s))
 file-bytes n k s h = blocks-bytes n (drop k s) (drop-bytes k s h)
