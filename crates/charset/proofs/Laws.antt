@@ -1,0 +1,89 @@
+-- A text is read position by position: its tokens from a position on are the one there, and those from the next on.
+-- Assumes nothing.
+use Prim.Native.Nat.{ℕ, _+_, _≤_, _<_}
+use native.Mathlib.Omega.{arith}
+use native.Mathlib.Numerals.{add-one}
+use mathlib.Core.Path.{_≡_, refl}
+use mathlib.Core.Bool.{Bool, true, false, _&&_, and-eq-true-iff}
+use mathlib.Core.List.{List, [], _∷_}
+use mathlib.Core.Logic.{_⊎_, inl, inr, ⊎-map}
+use lib.Dec.{ltb}
+use lib.ListN.{length, getD, drop, drop-of-length-le}
+use lib.Seq.{drop-cons}
+use borrow.Author.Tests.{lt-ltb, ltb-true, ltb-false}
+use Rattle.meaning.specs.Codes.{isAccent, codeToken, pairToken, tokens}
+use Rattle.meaning.proofs.Logic.{by-test}
+use Rattle.meaning.proofs.Tokens.{tokens-pair as first-pair, tokens-code}
+use Rattle.charset.specs.declared.Reading.{Reading}
+use Rattle.charset.specs.Reading.{isPairAt, readingAt}
+
+-- a code that is no accent, or has none after it
+first-single : (c : ℕ) (cs : List ℕ) → isAccent c ≡ false → tokens (c ∷ cs) ≡ codeToken c ∷ tokens cs
+first-single c [] a = unfold tokens in refl
+first-single c (d ∷ cs) a = tokens-code c d cs a
+
+first-last : (c : ℕ) (cs : List ℕ) → cs ≡ [] → tokens (c ∷ cs) ≡ codeToken c ∷ tokens cs
+unfolding tokens
+first-last c cs e = rw e
+
+drop-next : (s : List ℕ) (i : ℕ) → i < length s → drop i s ≡ getD s i 0 ∷ drop (i + 1) s
+drop-next s i h = rw (add-one, drop-cons s i 0)
+
+module _ (s : List ℕ) (i : ℕ) where
+  pub tokens-end : length s ≤ i → tokens (drop i s) ≡ []
+  unfolding tokens
+  tokens-end h = rw drop-of-length-le
+
+  -- an accent with a code after it
+  pub tokens-pair :
+      i + 1 < length s → isAccent (getD s i 0) ≡ true
+      → tokens (drop i s) ≡ pairToken (getD s i 0) (getD s (i + 1) 0) ∷ tokens (drop (i + 2) s)
+  tokens-pair h a =
+      let here : i < length s = omega arith in
+      let two : i + 1 + 1 ≡ i + 2 = omega arith in
+      rw (drop-next s i here, drop-next s (i + 1) h, two) (first-pair (getD s i 0) (getD s (i + 1) 0) (drop (i + 2) s) a)
+
+  -- any other code, and an accent at the end
+  pub tokens-single :
+      i < length s → isAccent (getD s i 0) ≡ false ⊎ (i + 1 ≡ length s)
+      → tokens (drop i s) ≡ codeToken (getD s i 0) ∷ tokens (drop (i + 1) s)
+  tokens-single h (inl a) = rw (drop-next s i h) (first-single (getD s i 0) (drop (i + 1) s) a)
+  tokens-single h (inr e) =
+      let end : length s ≤ i + 1 = omega arith in
+      rw (drop-next s i h) (first-last (getD s i 0) (drop (i + 1) s) (drop-of-length-le s end))
+
+-- What the reading r at a position i of a text s tells: the first of the tokens from i on, that the others are those from
+-- the reading's next position on, and where that lies.
+pub record ReadOn (s : List ℕ) (i : ℕ) (r : Reading) : Type 0 where
+  pub first : tokens (drop i s) ≡ r .token ∷ tokens (drop (r .next) s)
+  pub on : i < r .next
+  pub within : r .next ≤ length s
+
+one-false : (a b : Bool) → (a && b) ≡ false → a ≡ false ⊎ (b ≡ false)
+one-false true b e = inr e
+one-false false b e = inl refl
+
+module _ (s : List ℕ) (i : ℕ) (h : i < length s) where
+  read-pair : isPairAt s i ≡ true → ReadOn s i (readingAt s i)
+  unfolding readingAt isPairAt
+  read-pair p =
+      let both = and-eq-true-iff (isAccent (getD s i 0)) (ltb (i + 1) (length s)) .0 p in
+      let room = ltb-true (i + 1) (length s) (both .1) in
+      rw (lt-ltb i (length s) h, p)
+      (record { first = tokens-pair s i room (both .0); on = omega arith; within = omega arith })
+
+  read-single : isPairAt s i ≡ false → ReadOn s i (readingAt s i)
+  unfolding readingAt isPairAt
+  read-single p =
+      let w = one-false (isAccent (getD s i 0)) (ltb (i + 1) (length s)) p in
+      let last : ltb (i + 1) (length s) ≡ false → i + 1 ≡ length s = λ e. omega (arith, ltb-false (i + 1) (length s) e) in
+      rw (lt-ltb i (length s) h, p)
+      (record { first = tokens-single s i h (⊎-map (λ a. a) last w); on = omega arith; within = omega arith })
+
+  -- where the text has a code at i
+  pub read-at : ReadOn s i (readingAt s i)
+  read-at = by-test (isPairAt s i) read-pair read-single
+
+-- The law for loops over a text, of the result r of a call of `token_at`.
+pub read-on : {s : List ℕ} {i : ℕ} {r : Reading} → r ≡ readingAt s i → i < length s → ReadOn s i r
+read-on {s} {i} e h = rw e (read-at s i h)

@@ -1,0 +1,80 @@
+// The code points of single codes and of accents with letters; 0 for none.
+ghost use mathlib.Core.Path.{_≡_};
+ghost use Rattle.meaning.specs.Characters.{latin, accent, letter, composed};
+use crate::composed_table;
+use crate::latin_table;
+
+// Which of the thirteen accents each code from C0h to CFh is, from 1; 0 for none.
+const ACCENTS: [u8; 16] = [0, 1, 2, 3, 4, 5, 6, 7, 8, 0, 9, 10, 0, 11, 12, 13];
+
+// Below 7Fh only 24h, the currency sign, differs from ASCII; no table is read for those.
+pub fn latin(c: u8) -> u16
+    ensures { λ r. ⌜ r ≡ latin c ⌝ }
+{
+    if c < 32 {
+        return 0;
+    }
+    if c == 36 {
+        return 164;
+    }
+    if c < 127 {
+        return c as u16;
+    }
+    if c < 160 {
+        return 0;
+    }
+    latin_table::UPPER[(c - 160) as usize]
+}
+
+// The number of an accent, 1 to 13; 0 for any other code.
+pub fn accent(c: u8) -> u8
+    ensures { λ r. ⌜ r ≡ accent c ⌝ }
+{
+    if c < 192 {
+        return 0;
+    }
+    if c < 208 {
+        ACCENTS[(c - 192) as usize]
+    } else {
+        0
+    }
+}
+
+// The number of a letter, 1 to 52 for A to Z and a to z; 0 for any other code.
+fn letter(c: u8) -> u8
+    ensures { λ r. ⌜ r ≡ letter c ⌝ }
+{
+    if (65 <= c) & (c <= 90) {
+        return c - 64;
+    }
+    if (97 <= c) & (c <= 122) {
+        return c - 70;
+    }
+    0
+}
+
+// The single code point of an accent and a letter, each by its number.
+fn composed(a: u8, l: u8) -> u16
+    ensures { λ r. ⌜ r ≡ composed a l ⌝ }
+{
+    if a == 0 {
+        return 0;
+    }
+    if l == 0 {
+        return 0;
+    }
+    let row = a as usize - 1;
+    let column = l as usize - 1;
+    let place = 52 * row + column;
+    if place < 676 {
+        return composed_table::COMPOSED[place];
+    }
+    0
+}
+
+// The code point of an accent with the letter after it.
+pub fn pair(a: u8, c: u8) -> u16
+    ensures { λ r. ⌜ r ≡ composed (accent a) (letter c) ⌝ }
+{
+    composed(accent(a), letter(c))
+}
