@@ -4,7 +4,7 @@ use Rattle.meaning.specs.Lists.{all, any, keep, ontoFirst, later, joinMa
 use Rattle.meaning.specs.Tables.{latinTable, composedTable}
 use Rattle.meaning.specs.Characters.{latin, accents, accent, letter, composed}
 use Rattle.meaning.specs.Codes.{isControl, characterOf, codeToken, pairToken, isAccent, tokens, isListed, isCharacter, isRowEnd, isDoubleHeight}
-use Rattle.meaning.specs.Rows.{splitRows, isDouble, breaksPaired, pairedFrom, rows, heightFirst, evenFrom, heightsRight, linesOf, rowCount, rowsFit, textRule}
+use Rattle.meaning.specs.Rows.{splitRows, isDouble, breaksPaired, pairedFrom, rows, heightFirst, evenFrom, heightsRight, linesOf, rowCount, isShort, rowsFit, textRule}
 use Rattle.meaning.specs.Looks.{whiteOnBlack, pack, unpack}
 use Rattle.meaning.specs.Cells.{cellCharacter, controlHere, controlNext, lookHere, lookNext, cellsFrom, cells, isBlank, isBlankOnBlack, trimFront, beforeTrimmed, trimBack, shown}
 use Rattle.meaning.specs.Spans.{sameBit, sameGround, sameColour, fits, colourOf, lookOf, uniform, spansFrom, spans}
@@ -16,5 +16,5 @@ use Rattle.meaning.specs.Conversion.{spanOf, rowSpans, laterRows, rowPie
 use Rattle.meaning.specs.Profile.{isScalar, pieceInProfile, paragraphsInProfile, inProfile, documentRows, spanCells, rowCells, subtitleRow, paragraphRow, startsWith, spanElements}
 
 unfoldable pub computed : Unit {0}
-unfolding all any keep ontoFirst later joinMap joined same upFrom bytes firstBroken latinTable composedTable latin accents accent letter composed isControl characterOf codeToken pairToken isAccent tokens isListed isCharacter isRowEnd isDoubleHeight splitRows isDouble breaksPaired pairedFrom rows heightFirst evenFrom heightsRight linesOf rowCount rowsFit textRule whiteOnBlack pack unpack cellCharacter controlHere controlNext lookHere lookNext cellsFrom cells isBlank isBlankOnBlack trimFront beforeTrimmed trimBack shown sameBit sameGround sameColour fits colourOf lookOf uniform spansFrom spans field rateOf isRate blockCount isDigit valueFrom tnb fileRule blocks sgn sn ebn cs vp jc cf timeAt tci tco beforeEnd blockText timeInRange inFrames timesRight isComment firstBlockRule noCounts countFirst countContinuation countUser start userBlock firstBlock furtherBlock setNow subtitleOf close closeAtLast opening belongs continuing step walk outcome subtitlesOf digits withoutZeros decimal utf8 escaped styleName writeSpan writePiece writeTime alignmentName writeParagraph channel colourName sizeName writeStyle usedIn isUsed looksUsed beforeRate beforeStyles beforeParagraphs afterParagraphs render countSpans documentSpans spanOf rowSpans laterRows rowPieces fillers pieces alignmentOf paragraphOf documentOf refusal acceptance answerTo answer bufferAfter output isScalar pieceInProfile paragraphsInProfile inProfile documentRows spanCells rowCells subtitleRow paragraphRow startsWith spanElements
+unfolding all any keep ontoFirst later joinMap joined same upFrom bytes firstBroken latinTable composedTable latin accents accent letter composed isControl characterOf codeToken pairToken isAccent tokens isListed isCharacter isRowEnd isDoubleHeight splitRows isDouble breaksPaired pairedFrom rows heightFirst evenFrom heightsRight linesOf rowCount isShort rowsFit textRule whiteOnBlack pack unpack cellCharacter controlHere controlNext lookHere lookNext cellsFrom cells isBlank isBlankOnBlack trimFront beforeTrimmed trimBack shown sameBit sameGround sameColour fits colourOf lookOf uniform spansFrom spans field rateOf isRate blockCount isDigit valueFrom tnb fileRule blocks sgn sn ebn cs vp jc cf timeAt tci tco beforeEnd blockText timeInRange inFrames timesRight isComment firstBlockRule noCounts countFirst countContinuation countUser start userBlock firstBlock furtherBlock setNow subtitleOf close closeAtLast opening belongs continuing step walk outcome subtitlesOf digits withoutZeros decimal utf8 escaped styleName writeSpan writePiece writeTime alignmentName writeParagraph channel colourName sizeName writeStyle usedIn isUsed looksUsed beforeRate beforeStyles beforeParagraphs afterParagraphs render countSpans documentSpans spanOf rowSpans laterRows rowPieces fillers pieces alignmentOf paragraphOf documentOf refusal acceptance answerTo answer bufferAfter output isScalar pieceInProfile paragraphsInProfile inProfile documentRows spanCells rowCells subtitleRow paragraphRow startsWith spanElements
 computed = tt

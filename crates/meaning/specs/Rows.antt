@@ -64,10 +64,14 @@ linesOf double n = record { 0 = cond double (2 * n .0) (n .0) }
 unfoldable pub rowCount : {A : Type 0} → List A → Rows
 rowCount rs = record { 0 = length rs }
 
--- rule 15: a row has at most 64 cells, and the lines covered, from line VP on, end at line 23 at the latest
+-- a row has at most 64 cells, controls included
+unfoldable pub isShort : List Token → Bool
+isShort r = leb (length r) 64
+
+-- rule 15: all rows are short, and the lines covered, from line VP on, end at line 23 at the latest
 unfoldable pub rowsFit : ℕ → ℕ → List Token → Bool
 rowsFit mode vp ts =
-    all (λ r. leb (length r) 64) (rows mode ts)
+    all isShort (rows mode ts)
     && leb (vp + linesOf (isDouble ts) (rowCount (rows mode ts)) .0) 24
 
 -- the number of the first of the rules 13 to 15 that a text breaks, or 0

@@ -1,0 +1,108 @@
+-- The laws of writing into a lent buffer: writes one after the other are one write, and what it leaves there.
+-- Assumes nothing.
+use mathlib.Core.Path.{_≡_, refl, sym, ap, _∙_}
+use mathlib.Core.List.{List, [], _∷_, _++_}
+use Prim.Native.Nat.{ℕ, suc, _+_, _-_, _<_, _≤_, _^_, min}
+use native.Mathlib.Nat.{add-zero, add-suc, suc-add}
+use native.Mathlib.Decide.{decLe}
+use native.Mathlib.Omega.{arith}
+use lib.ListN.{length, set, take, drop, getD, length-append, length-set, drop-of-length-le}
+use lib.Seq.{set-out, sets, sets-eq, drop-cons, take-append-seam}
+use Rattle.output.specs.Output.{stored, past, Wrote}
+
+pub length-stored : (buf : List ℕ) (at : ℕ) (xs : List ℕ) → length (stored buf at xs) ≡ length buf
+unfolding stored
+length-stored buf at [] = refl
+length-stored buf at (x ∷ xs) = length-stored (set buf at x) (suc at) xs ∙ length-set buf at x
+
+-- past the end nothing is stored
+pub stored-out : (buf : List ℕ) (at : ℕ) (xs : List ℕ) → length buf ≤ at → stored buf at xs ≡ buf
+unfolding stored
+stored-out buf at [] h = refl
+stored-out buf at (x ∷ xs) h =
+    stored-out (set buf at x) (suc at) xs (omega (arith, length-set buf at x)) ∙ set-out buf at x h
+
+pub stored-append : (buf : List ℕ) (at : ℕ) (xs ys : List ℕ) → stored buf at (xs ++ ys) ≡ stored (stored buf at xs) (at + length xs) ys
+unfolding stored
+stored-append buf at [] ys = rw add-zero
+stored-append buf at (x ∷ xs) ys = rw (stored-append (set buf at x) (suc at) xs ys, suc-add, add-suc)
+
+-- one byte of a run is stored, and the rest from the next index on
+pub stored-next : (buf : List ℕ) (at : ℕ) (xs : List ℕ) (j : ℕ) → j < length xs
+    → stored (set buf (at + j) (getD xs j 0)) (at + (j + 1)) (drop (j + 1) xs) ≡ stored buf (at + j) (drop j xs)
+unfolding stored
+stored-next buf at xs j h =
+    let e : at + (j + 1) ≡ suc (at + j) = omega arith in
+    let k : j + 1 ≡ suc j = omega arith in
+    rw (drop-cons xs j 0, e, k)
+
+-- after as many bytes as fit, the others change nothing
+pub stored-cut : (buf : List ℕ) (at : ℕ) (xs : List ℕ) (n : ℕ) → n ≡ min (length xs) (length buf - at) → stored buf (at + n) (drop n xs) ≡ buf
+unfolding stored
+stored-cut buf at xs n e = at-end (decLe (length xs) n)
+  where
+    at-end : Dec (length xs ≤ n) → stored buf (at + n) (drop n xs) ≡ buf
+    at-end (yes p) = rw drop-of-length-le
+    at-end (no p) = stored-out buf (at + n) (drop n xs) (omega arith)
+
+-- a position that saturates lies past the end of any buffer, as the sum does
+stored-past : (l : List ℕ) (k : ℕ) (ys : List ℕ) → length l < 2 ^ 64 → Dec (k ≤ 18446744073709551615) → stored l (min k 18446744073709551615) ys ≡ stored l k ys
+stored-past l k ys h (yes p) = ap (λ (n : ℕ). stored l n ys) (omega arith)
+stored-past l k ys h (no p) = stored-out l (min k 18446744073709551615) ys (omega arith) ∙ sym (stored-out l k ys (omega arith))
+
+-- two writes are one. Nested to the right, as a document's parts are
+infixr 50 _⨟_
+pub _⨟_ : {buf b1 b2 xs ys : List ℕ} {at r1 r2 : ℕ} → Wrote buf at xs b1 r1 → Wrote b1 r1 ys b2 r2 → Wrote buf at (xs ++ ys) b2 r2
+unfolding past
+_⨟_ {buf} {b1} {b2} {xs} {ys} {at} {r1} {r2} w v =
+    record {
+      held =
+          v .held
+          ∙ ap (λ (n : ℕ). stored b1 n ys) (w .next)
+          ∙ ap (λ (l : List ℕ). stored l (min (at + length xs) 18446744073709551615) ys) (w .held)
+          ∙ stored-past (stored buf at xs) (at + length xs) ys (omega (arith, length-stored buf at xs, w .room)) (decLe (at + length xs) 18446744073709551615)
+          ∙ sym (stored-append buf at xs ys);
+      next = omega (arith, length-append xs ys, w .next, v .next);
+      room = w .room;
+    }
+
+pub wrote-length : {buf b1 xs : List ℕ} {at r : ℕ} → Wrote buf at xs b1 r → length b1 ≡ length buf
+wrote-length {buf} {b1} {xs} {at} w = ap length (w .held) ∙ length-stored buf at xs
+
+-- the same bytes under another name
+pub wrote-as : {buf b1 xs ys : List ℕ} {at r : ℕ} → ys ≡ xs → Wrote buf at xs b1 r → Wrote buf at ys b1 r
+wrote-as e w = rw e w
+
+pub wrote-nothing : (buf : List ℕ) (at : ℕ) → length buf < 2 ^ 64 → at < 2 ^ 64 → Wrote buf at [] buf at
+unfolding stored past
+wrote-nothing buf at h k = record { held = refl; next = omega arith; room = h }
+
+-- the position after a write from 0 is the length, if that or the position is known not to have saturated
+pub from-zero : {buf b1 xs : List ℕ} {r : ℕ} → Wrote buf 0 xs b1 r → length xs < 2 ^ 64 → r ≡ length xs
+unfolding past
+from-zero w h = omega (arith, w .next)
+
+pub wrote-count : {buf b1 xs : List ℕ} {r : ℕ} → Wrote buf 0 xs b1 r → r < 18446744073709551615 → r ≡ length xs
+unfolding past
+wrote-count w h = omega (arith, w .next)
+
+stored-is-sets : (xs buf : List ℕ) (at : ℕ) → stored buf at xs ≡ sets buf at xs
+unfolding stored
+stored-is-sets [] buf at = refl
+stored-is-sets (x ∷ xs) buf at = stored-is-sets xs (set buf at x) (suc at)
+
+-- where there is room, the bytes stand between what was before and what was after
+pub stored-fits : (buf : List ℕ) (at : ℕ) (xs : List ℕ) → at + length xs ≤ length buf → stored buf at xs ≡ take at buf ++ xs ++ drop (at + length xs) buf
+stored-fits buf at xs h = stored-is-sets xs buf at ∙ sets-eq xs buf at h
+
+-- a write from 0 that fits leaves its bytes, and then what stood behind them
+pub wrote-placed : {buf b1 xs : List ℕ} {r : ℕ} → Wrote buf 0 xs b1 r → length xs ≤ length buf → b1 ≡ xs ++ drop (length xs) buf
+wrote-placed {buf} {b1} {xs} w h =
+    let z : 0 + length xs ≡ length xs = omega arith in
+    w .held ∙ stored-fits buf 0 xs (omega arith) ∙ rw z
+
+-- .. and so they are its first bytes
+pub wrote-front : {buf b1 xs : List ℕ} {r : ℕ} → Wrote buf 0 xs b1 r → r < 18446744073709551615 → r ≤ length buf → take r b1 ≡ xs
+wrote-front {buf} {b1} {xs} {r} w h k =
+    let e : r ≡ length xs = wrote-count w h in
+    rw (e, wrote-placed w (omega arith)) (take-append-seam xs (drop (length xs) buf))

@@ -1,0 +1,49 @@
+-- `put_digits3` writes the last three digits.
+-- Assumes nothing.
+use Rattle.meaning.specs.Document.{digits}
+use Rattle.output.proofs.Laws.{_⨟_, wrote-as}
+use borrow.Author.Needs.{needs}
+use Rattle.output.proofs.put_digits3.Statement.{statement}
+use Rattle.output.proofs.put_digits3.Tie as tie
+
+digit-requires : tie.Need-digit-requires
+digit-requires c κs = search needs
+
+put-byte-requires : tie.Need-put-byte-requires
+put-byte-requires c κs = search needs
+
+digit-requires-2 : tie.Need-digit-requires-2
+digit-requires-2 c κs = search needs
+
+put-byte-requires-2 : tie.Need-put-byte-requires-2
+put-byte-requires-2 c κs = search needs
+
+digit-requires-3 : tie.Need-digit-requires-3
+digit-requires-3 c κs = search needs
+
+put-byte-requires-3 : tie.Need-put-byte-requires-3
+put-byte-requires-3 c κs = search needs
+
+same-length : tie.Need-same-length
+same-length c = search needs
+
+returns : tie.Need-returns
+unfolding digits
+returns c =
+    let c3 = c .before .before in
+    let c2 = c3 .before .before .before .before .before in
+    let c1 = c2 .before .before .before .before .before in
+    wrote-as (cc) (c1 .put-byte .ensures ⨟ c2 .put-byte2 .ensures ⨟ c3 .put-byte3 .ensures)
+
+pub put-digits3-spec : {M : Type 1} → statement M
+put-digits3-spec =
+    tie.close
+    (tie.spec
+    digit-requires
+    put-byte-requires
+    digit-requires-2
+    put-byte-requires-2
+    digit-requires-3
+    put-byte-requires-3
+    same-length
+    returns)

@@ -1,0 +1,43 @@
+-- `put_colour_name` writes red, green and blue.
+-- Assumes nothing.
+use Rattle.meaning.specs.Lists.{joined, bytes}
+use Rattle.meaning.specs.Document.{colourName}
+use Rattle.output.proofs.Laws.{_⨟_}
+use borrow.Author.Needs.{needs}
+use Rattle.styles.proofs.put_colour_name.Statement.{statement}
+use Rattle.styles.proofs.put_colour_name.Tie as tie
+
+put-byte-requires : tie.Need-put-byte-requires
+put-byte-requires c κs = search needs
+
+put-channel-requires : tie.Need-put-channel-requires
+put-channel-requires c κs = search needs
+
+put-channel-requires-2 : tie.Need-put-channel-requires-2
+put-channel-requires-2 c κs = search needs
+
+put-channel-requires-3 : tie.Need-put-channel-requires-3
+put-channel-requires-3 c κs = search needs
+
+same-length : tie.Need-same-length
+same-length c = search needs
+
+returns : tie.Need-returns
+unfolding colourName joined bytes
+returns c =
+    let c4 = c .before .before in
+    let c3 = c4 .before .before .before .before in
+    let c2 = c3 .before .before .before .before in
+    let c1 = c2 .before .before .before .before in
+    c1 .put-byte .ensures ⨟ c2 .put-channel .ensures ⨟ c3 .put-channel2 .ensures ⨟ c4 .put-channel3 .ensures
+
+pub put-colour-name-spec : {M : Type 1} → statement M
+put-colour-name-spec =
+    tie.close
+    (tie.spec
+    put-byte-requires
+    put-channel-requires
+    put-channel-requires-2
+    put-channel-requires-3
+    same-length
+    returns)

@@ -1,0 +1,104 @@
+// The looks in use, and the line of each in a document's styling.
+
+use meaning::Look;
+ghost use mathlib.Core.Path.{_≡_};
+ghost use mathlib.Core.Bool.{true, false, cond};
+ghost use mathlib.Core.List.{[]};
+ghost use lib.ListN.{set, replicate};
+ghost use Rattle.meaning.specs.Lists.{joinMap};
+ghost use Rattle.meaning.specs.Document.{styleName, channel, colourName, writeStyle};
+ghost use Rattle.output.specs.Output.{Wrote};
+ghost use Rattle.styles.specs.Styles.{looksMarked};
+
+// 128 marks, one for each look: all clear at the start, and set for the looks in use.
+pub struct Marks {
+    pub on: [bool; 128],
+}
+
+impl Marks {
+    pub fn clear() -> Marks
+        ensures { λ r. ⌜ r .on ≡ replicate 128 false ⌝ }
+    {
+        Marks { on: [false; 128] }
+    }
+
+    // There are no looks from 128 on, and so nothing to mark.
+    pub fn marked(mut self, look: usize) -> Marks
+        ensures { λ r. ⌜ r .on ≡ set (self .on) look true ⌝ }
+    {
+        if look < 128 {
+            self.on[look] = true;
+        }
+        self
+    }
+}
+
+pub fn put_style_name(out: &mut [u8], at: usize, look: usize) -> usize
+    ensures { λ r. ⌜ Wrote (now (out .entry)) at (styleName look) (now (out .exit)) r ⌝ }
+{
+    let p = output::put_byte(out, at, b's');
+    output::put_digits3(out, p, look)
+}
+
+// One of two texts.
+fn put_either(out: &mut [u8], at: usize, first: bool, a: &[u8], b: &[u8]) -> usize
+    ensures { λ r. ⌜ Wrote (now (out .entry)) at (cond first (now (a .entry)) (now (b .entry))) (now (out .exit)) r ⌝ }
+{
+    if first {
+        return output::put(out, at, a);
+    }
+    output::put(out, at, b)
+}
+
+fn put_channel(out: &mut [u8], at: usize, bit: u8) -> usize
+    ensures { λ r. ⌜ Wrote (now (out .entry)) at (channel bit) (now (out .exit)) r ⌝ }
+{
+    put_either(out, at, bit == 0, b"00", b"ff")
+}
+
+fn put_colour_name(out: &mut [u8], at: usize, colour: u8) -> usize
+    ensures { λ r. ⌜ Wrote (now (out .entry)) at (colourName colour) (now (out .exit)) r ⌝ }
+{
+    let p = output::put_byte(out, at, b'#');
+    let p = put_channel(out, p, colour % 2);
+    let p = put_channel(out, p, colour / 2 % 2);
+    put_channel(out, p, colour / 4 % 2)
+}
+
+// One line of the styling.
+pub fn put_style(out: &mut [u8], at: usize, look: usize) -> usize
+    ensures { λ r. ⌜ Wrote (now (out .entry)) at (writeStyle look) (now (out .exit)) r ⌝ }
+{
+    let shown = Look::unpack(look);
+    let p = output::put(out, at, b"<tt:style xml:id=\"");
+    let p = put_style_name(out, p, look);
+    let p = output::put(out, p, b"\" tts:color=\"");
+    let p = put_colour_name(out, p, shown.colour);
+    let p = output::put(out, p, b"\" tts:backgroundColor=\"");
+    let p = put_colour_name(out, p, shown.background);
+    let p = output::put(out, p, b"\" tts:fontSize=\"");
+    let p = put_either(out, p, shown.double, b"1c 2c", b"1c 1c");
+    output::put(out, p, b"\"/>\n")
+}
+
+fn put_style_if(out: &mut [u8], at: usize, on: bool, look: usize) -> usize
+    ensures { λ r. ⌜ Wrote (now (out .entry)) at (cond on (writeStyle look) []) (now (out .exit)) r ⌝ }
+{
+    if on {
+        return put_style(out, at, look);
+    }
+    at
+}
+
+// The lines of the marked looks, each once, ascending.
+pub fn put_styles(out: &mut [u8], at: usize, marks: Marks) -> usize
+    ensures { λ r. ⌜ Wrote (now (out .entry)) at (joinMap writeStyle (looksMarked (marks .on))) (now (out .exit)) r ⌝ }
+{
+    let mut p = at;
+    let mut look = 0;
+    while look < 128 {
+        p = put_style_if(out, p, marks.on[look], look);
+        look += 1;
+    }
+    p
+}
