@@ -1,0 +1,4 @@
+pub mod Laws
+pub mod RowLoop
+pub mod TextLoop
+pub mod Facts

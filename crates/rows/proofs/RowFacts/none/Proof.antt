@@ -1,0 +1,13 @@
+-- `RowFacts::none` meets its contract.
+-- Assumes nothing.
+use borrow.Author.Needs.{needs}
+use Rattle.rows.specs.Scanning.{noRowFacts}
+use Rattle.rows.proofs.RowFacts.none.Statement.{statement}
+use Rattle.rows.proofs.RowFacts.none.Tie as tie
+
+returns : tie.Need-returns
+unfolding noRowFacts
+returns c = search needs
+
+pub none-spec : {M : Type 1} → statement M
+none-spec = tie.close (tie.spec returns)

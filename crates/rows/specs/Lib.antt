@@ -1,0 +1,3 @@
+pub mod FirstRow
+pub mod Scanning
+pub mod Scanned
