@@ -286,6 +286,9 @@ even-paired : (p a b : Bool) → (p ≡ true → a ≡ b) → (not p || a) ≡ (
 even-paired true a b h = h refl
 even-paired false a b h = refl
 
+pub double-scanned : {s : List ℕ} {first : RowScan} → Scanned s 0 first → first .facts .height ≡ isDouble (tokens s)
+double-scanned {s} k = ap (λ (f : RowFacts). f .height) (k .facts) ∙ whole-height (firstRow (tokens s)) ∙ sym (double-first (tokens s))
+
 -- what the two scans tell is the rule
 pub rule-scanned :
     {s : List ℕ} (mode vp : ℕ) {first : RowScan} {scan : TextScan} → Scanned s 0 first
@@ -293,7 +296,6 @@ pub rule-scanned :
     → ruleOf (scan .facts) (first .facts .height) (not (eqb mode 2 && first .facts .height) || scan .even) vp ≡ textRule mode vp (tokens s)
 unfolding breaksPaired
 rule-scanned {s} mode vp {first} {scan} k t =
-    let d : first .facts .height ≡ isDouble (tokens s) =
-    ap (λ (f : RowFacts). f .height) (k .facts) ∙ whole-height (firstRow (tokens s)) ∙ sym (double-first (tokens s)) in
+    let d = double-scanned k in
     let u : TextScanned s (eqb mode 2 && isDouble (tokens s)) scan = rw d at t in
     rw (d, even-paired (eqb mode 2 && isDouble (tokens s)) _ _ (u .even), u .facts) (rule-right mode vp (tokens s))

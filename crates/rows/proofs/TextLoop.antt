@@ -16,8 +16,13 @@ use Rattle.rows.specs.declared.TextFacts.{TextFacts}
 use Rattle.rows.specs.declared.TextScan.{TextScan}
 use Rattle.rows.specs.FirstRow.{firstRow, afterRow, isEnded, endFirst, withoutEnd, nextRows, rowsOf, rowsAfter}
 use Rattle.rows.specs.Scanning.{noRowFacts, rowFactsFrom, noTextFacts, withRow, textFactsFrom}
-use Rattle.rows.specs.Scanned.{Scanned, EndFound, TextScanned}
+use Rattle.rows.specs.Scanned.{Scanned, EndFound, RowAfter, TextScanned}
 use Rattle.rows.proofs.Laws.{rows-first, rows-after, no-rows-after, even-ended, even-open}
+
+-- where the next row starts
+pub row-after : {s : List ℕ} (paired : Bool) {next : ℕ} {e : EndRead} {start : ℕ} → EndFound s next e → start ≡ cond paired (e .after) next → RowAfter s paired next start
+row-after {s} true f q = record { rest = ap (λ (n : ℕ). tokens (drop n s)) q ∙ f .rest; on = omega (arith, f .on, q) }
+row-after {s} false f q = record { rest = ap (λ (n : ℕ). tokens (drop n s)) q; on = omega (arith, q) }
 
 -- `row` is what stands from the row read last on; the rows after it are still to come
 pub record TextLeft (s : List ℕ) (paired : Bool) (a : TextFacts) (even more : Bool) (next : ℕ) : Type 0 where
@@ -58,14 +63,10 @@ left-first {s} paired {r} k n e =
 
 module _ {s : List ℕ} {paired : Bool} {a : TextFacts} {even more : Bool} {next : ℕ} (l : TextLeft s paired a even more next) where
   module _ (m : more ≡ true) {e : EndRead} (f : EndFound s next e) where
-    -- where the next row starts
-    next-row : {start : ℕ} → start ≡ cond paired (e .after) next → tokens (drop start s) ≡ nextRows paired (l .row)
+    -- what stands from the next row on
+    next-row : {start : ℕ} → RowAfter s paired next start → tokens (drop start s) ≡ nextRows paired (l .row)
     unfolding nextRows
-    next-row q = ap (λ (n : ℕ). tokens (drop n s)) q ∙ pick paired
-      where
-        pick : (p : Bool) → tokens (drop (cond p (e .after) next) s) ≡ cond p (withoutEnd (afterRow (l .row))) (afterRow (l .row))
-        pick true = f .rest ∙ ap withoutEnd (l .rest)
-        pick false = l .rest
+    next-row q = q .rest ∙ ap (λ (ts : List Token). cond paired (withoutEnd ts) ts) (l .rest)
 
     even-next : (ts : List Token) → paired ≡ true → ts ≡ nextRows paired (l .row) → ((even && e .found) && evenFrom false ts) ≡ evenFrom false (tokens s)
     unfolding nextRows
@@ -76,7 +77,7 @@ module _ {s : List ℕ} {paired : Bool} {a : TextFacts} {even more : Bool} {next
         ∙ l .evens p
 
     pub left-next :
-        {start : ℕ} {r : RowScan} {b : TextFacts} → start ≡ cond paired (e .after) next → Scanned s start r → b ≡ withRow a (r .facts)
+        {start : ℕ} {r : RowScan} {b : TextFacts} → RowAfter s paired next start → Scanned s start r → b ≡ withRow a (r .facts)
         → TextLeft s paired b (even && e .found) (r .ended) (r .next)
     left-next {start} {r} q k g =
         record {
@@ -101,11 +102,6 @@ module _ {s : List ℕ} {paired : Bool} {a : TextFacts} {even more : Bool} {next
         facts = sym (ap (textFactsFrom a) (no-rows-after paired (l .row) o)) ∙ l .facts;
         even = λ p. sym (and-none even) ∙ ap (λ (b : Bool). even && b) (sym (even-open (l .row) o)) ∙ l .evens p;
       }
-
--- where the row start lies
-pub start-on : (paired : Bool) {s : List ℕ} {next : ℕ} {e : EndRead} {start : ℕ} → EndFound s next e → start ≡ cond paired (e .after) next → next ≤ start
-start-on true f q = omega (arith, f .on, q)
-start-on false f q = omega (arith, q)
 
 -- what is left of the text falls: another row was read, or there is none
 pub less-left : (more : Bool) (n next size : ℕ) → (more ≡ true → (n < next) × (next ≤ size)) → cond more (suc (size - next)) 0 < suc (size - n)

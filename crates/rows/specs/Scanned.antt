@@ -2,7 +2,7 @@
 -- Assumes nothing.
 use Prim.Native.Nat.{ℕ, _≤_, _<_}
 use mathlib.Core.Path.{_≡_}
-use mathlib.Core.Bool.{Bool, true, false}
+use mathlib.Core.Bool.{Bool, true, false, cond}
 use mathlib.Core.List.{List}
 use lib.ListN.{length, drop}
 use Rattle.meaning.specs.Codes.{tokens}
@@ -26,6 +26,11 @@ pub record EndFound (s : List ℕ) (i : ℕ) (r : EndRead) : Type 0 where
   pub found : r .found ≡ endFirst (tokens (drop i s))
   pub rest : tokens (drop (r .after) s) ≡ withoutEnd (tokens (drop i s))
   pub on : i ≤ r .after
+
+-- the start of the next row: the second row end of a pair is passed over
+pub record RowAfter (s : List ℕ) (paired : Bool) (next r : ℕ) : Type 0 where
+  pub rest : tokens (drop r s) ≡ cond paired (withoutEnd (tokens (drop next s))) (tokens (drop next s))
+  pub on : next ≤ r
 
 -- the facts of all rows; whether the runs of row ends are even counts only where they are paired
 pub record TextScanned (s : List ℕ) (paired : Bool) (r : TextScan) : Type 0 where

@@ -5,9 +5,9 @@ ghost use mathlib.Core.Bool.{cond};
 ghost use mathlib.Core.List.{[], _∷_};
 ghost use Rattle.meaning.specs.Lists.{firstBroken};
 ghost use Rattle.meaning.specs.Codes.{tokens, isRowEnd};
-ghost use Rattle.meaning.specs.Rows.{textRule};
+ghost use Rattle.meaning.specs.Rows.{isDouble, textRule};
 ghost use Rattle.rows.specs.Scanning.{moreUpTo, noRowFacts, withToken, noTextFacts, withRow, ruleOf};
-ghost use Rattle.rows.specs.Scanned.{Scanned, EndFound, TextScanned};
+ghost use Rattle.rows.specs.Scanned.{Scanned, EndFound, RowAfter, TextScanned};
 use meaning::Rows;
 use meaning::Token;
 
@@ -174,6 +174,23 @@ fn row_start(paired: bool, second: usize, first: usize) -> usize
     ensures { λ r. ⌜ r ≡ cond paired second first ⌝ }
 {
     if paired { second } else { first }
+}
+
+// Where the row after a row end starts, given the position after that row end.
+pub fn row_after(text: &[u8], paired: bool, next: usize) -> usize
+    ensures { λ r. ⌜ RowAfter (now (text .entry)) paired next r ⌝ }
+{
+    let second = end_at(text, next);
+    row_start(paired, second.after, next)
+}
+
+// Whether a set's text is double height.
+pub fn is_double(text: &[u8]) -> bool
+    ensures { λ r. ⌜ r ≡ isDouble (tokens (now (text .entry))) ⌝ }
+{
+    let first = scan_row(text, 0);
+    let f = first.facts;
+    f.height
 }
 
 // The scan of a whole text: the facts of all its rows, and whether every run of row ends is even.

@@ -1,0 +1,18 @@
+-- `row_after` meets its contract.
+-- Assumes nothing.
+use borrow.Author.Needs.{needs}
+use Rattle.rows.proofs.TextLoop.{row-after}
+use Rattle.rows.proofs.row_after.Statement.{statement}
+use Rattle.rows.proofs.row_after.Tie as tie
+
+end-at-requires : tie.Need-end-at-requires
+end-at-requires c κs = search needs
+
+row-start-requires : tie.Need-row-start-requires
+row-start-requires c κs = search needs
+
+returns : tie.Need-returns
+returns c = row-after _ (c .before .end-at .ensures) (c .row-start .ensures)
+
+pub row-after-spec : {M : Type 1} → statement M
+row-after-spec = tie.close (tie.spec end-at-requires row-start-requires returns)
