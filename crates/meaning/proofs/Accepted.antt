@@ -28,7 +28,7 @@ blocks-length zero s = refl
 blocks-length (suc n) s = ap suc (blocks-length n (drop 128 s))
 
 module _ (Block : List ℕ → Type 0) (mode : ℕ) (file : List ℕ) (blocked : All Block (blocks (blockCount file) (drop 1024 file))) where
-  outcome-kept : Kept Block mode (rateOf file) (blockCount file) (outcome mode file)
+  pub outcome-kept : Kept Block mode (rateOf file) (blockCount file) (outcome mode file)
   unfolding outcome
   outcome-kept =
       by-number (fileRule mode file)
@@ -71,10 +71,10 @@ module _ (Block : List ℕ → Type 0) (mode : ℕ) (file : List ℕ) (blocked :
   accepted-file buffer e = accepted-by buffer (outcome mode file) refl outcome-kept e
 
 -- nothing is asked of the blocks
-abbrev Any : List ℕ → Type 0
+abbrev pub Any : List ℕ → Type 0
 Any b = Unit {0}
 
-any-blocks : (bs : List (List ℕ)) → All Any bs
+pub any-blocks : (bs : List (List ℕ)) → All Any bs
 any-blocks [] = nil
 any-blocks (b ∷ bs) = cons tt (any-blocks bs)
 
@@ -94,7 +94,7 @@ module _ (mode : ℕ) (file : List ℕ) where
       let r₂ = unbroken _ _ _ (r₁ .1) in
       unbroken _ _ _ (r₂ .1) .0
 
-  tnb-right : fileRule mode file ≡ 0 → tnb file ≡ blockCount file
+  pub tnb-right : fileRule mode file ≡ 0 → tnb file ≡ blockCount file
   unfolding fileRule
   tnb-right e =
       let r₁ = unbroken _ _ _ e in

@@ -36,7 +36,7 @@ ours row = length (spans (shown row))
 theirs : List Span → ℕ
 theirs ss = length ss
 
-count-append : (ps qs : List Piece) → countSpans (ps ++ qs) ≡ countSpans ps + countSpans qs
+pub count-append : (ps qs : List Piece) → countSpans (ps ++ qs) ≡ countSpans ps + countSpans qs
 unfolding countSpans
 count-append [] qs = omega arith
 count-append (span s ∷ ps) qs = omega (arith, count-append ps qs)

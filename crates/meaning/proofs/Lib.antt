@@ -17,3 +17,4 @@ pub mod OwnRows
 pub mod OwnProfile
 pub mod Accepted
 pub mod Demand3
+pub mod Bounds

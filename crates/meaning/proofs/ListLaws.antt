@@ -3,11 +3,11 @@
 use Prim.Native.Nat.{ℕ, zero, suc, _<_}
 use native.Mathlib.Omega.{arith}
 use native.Mathlib.Nat.{le-of-suc-le-suc, not-suc-le-zero}
-use mathlib.Core.Path.{_≡_, refl}
+use mathlib.Core.Path.{_≡_, refl, sym, ap, _∙_}
 use mathlib.Core.Bool.{Bool, true, false}
-use mathlib.Core.List.{List, [], _∷_, _++_, map}
+use mathlib.Core.List.{List, [], _∷_, _++_, map, append-assoc}
 use lib.ListN.{length, getD, replicate}
-use Rattle.meaning.specs.Lists.{all, ontoFirst, firstBroken}
+use Rattle.meaning.specs.Lists.{all, ontoFirst, joinMap, firstBroken}
 use Rattle.meaning.proofs.Logic.{false-not-true}
 
 pub data All {A : Type 0} (P : A → Type 0) : List A → Type 0 where
@@ -44,6 +44,11 @@ pub all-onto : {A : Type 0} {P : A → Type 0} (x : A) {xss : List (List A)} →
 unfolding ontoFirst
 all-onto x p nil = cons (cons p nil) nil
 all-onto x p (cons q h) = cons (cons p q) h
+
+pub join-append : {A : Type 0} (f : A → List ℕ) (xs ys : List A) → joinMap f (xs ++ ys) ≡ joinMap f xs ++ joinMap f ys
+unfolding joinMap
+join-append f [] ys = refl
+join-append f (x ∷ xs) ys = ap (λ (l : List ℕ). f x ++ l) (join-append f xs ys) ∙ sym (append-assoc (f x) (joinMap f xs) (joinMap f ys))
 
 -- the test `all`, clause by clause
 module _ {A : Type 0} (p : A → Bool) where

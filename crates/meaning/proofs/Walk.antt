@@ -1,13 +1,13 @@
--- What is known of a file that the walk accepts: its blocks are counted, its subtitles keep the rules, their SNs ascend.
+-- What is known of a file that the walk accepts: its blocks are counted, its subtitles keep the rules and are no more than the blocks, their SNs ascend.
 -- Assumes nothing.
-use Prim.Native.Nat.{ℕ, zero, suc, _+_, _≤_}
+use Prim.Native.Nat.{ℕ, zero, suc, _+_, _≤_, _<_}
 use native.Mathlib.Omega.{arith}
 use mathlib.Core.Path.{_≡_, refl, sym, ap, subst, _∙_}
 use mathlib.Core.Bool.{Bool, true, false, _||_}
 use mathlib.Core.List.{List, [], _∷_, _++_, append-nil}
 use mathlib.Core.Option.{Option, none, some}
 use lib.Dec.{eqb}
-use lib.ListN.{length, drop}
+use lib.ListN.{length, drop, length-append}
 use borrow.Author.Tests.{leb-true}
 use Rattle.meaning.specs.declared.Counts.{Counts}
 use Rattle.meaning.specs.Codes.{tokens}
@@ -24,15 +24,15 @@ use Rattle.meaning.proofs.ListLaws.All.{nil, cons}
 unfoldable pub total : Counts → ℕ
 total c = c .subtitles + c .comments + c .continuations + c .users
 
-total-first : (b : List ℕ) (c : Counts) → total (countFirst b c) ≡ suc (total c)
+pub total-first : (b : List ℕ) (c : Counts) → total (countFirst b c) ≡ suc (total c)
 unfolding total countFirst
 total-first b c = by-test (isComment b) (λ e. rw (e, countFirst) (omega arith)) (λ e. rw (e, countFirst) (omega arith))
 
-total-continuation : (c : Counts) → total (countContinuation c) ≡ suc (total c)
+pub total-continuation : (c : Counts) → total (countContinuation c) ≡ suc (total c)
 unfolding total countContinuation
 total-continuation c = omega arith
 
-total-user : (c : Counts) → total (countUser c) ≡ suc (total c)
+pub total-user : (c : Counts) → total (countUser c) ≡ suc (total c)
 unfolding total countUser
 total-user c = omega arith
 
@@ -80,6 +80,7 @@ module _ (Block : List ℕ → Type 0) (mode rate : ℕ) where
   -- after n blocks
   pub record Held (n : ℕ) (p : Progress) : Type 0 where
     pub counted : total (p .counts) ≡ n
+    pub few : length (p .subtitles) ≤ n
     pub made : All (Made Block mode rate) (p .subtitles)
     pub current : (s : OpenSet) → p .current ≡ some s → Open p s
     pub order : Ascends 0 (p .subtitles) (p .least)
@@ -91,39 +92,40 @@ module _ (Block : List ℕ → Type 0) (mode rate : ℕ) where
 
   -- no subtitle more, and another open set or none
   set-held :
-      (n : ℕ) (o : Option OpenSet) (p : Progress) → total (p .counts) ≡ n → All (Made Block mode rate) (p .subtitles)
+      (n : ℕ) (o : Option OpenSet) (p : Progress) → total (p .counts) ≡ n → length (p .subtitles) ≤ n → All (Made Block mode rate) (p .subtitles)
       → ((s : OpenSet) → o ≡ some s → Open p s) → Ascends 0 (p .subtitles) (p .least) → Held n (setNow o [] p)
   unfolding setNow
-  set-held n o p t m k a =
-      rw (append-nil (p .subtitles)) (record { counted = t; made = m; current = λ s e. (let q = k s e in record { opened = q .opened; above = q .above; below = q .below }); order = a })
+  set-held n o p t l m k a =
+      rw (append-nil (p .subtitles)) (record { counted = t; few = l; made = m; current = λ s e. (let q = k s e in record { opened = q .opened; above = q .above; below = q .below }); order = a })
 
-  close-kept : (n : ℕ) (s : OpenSet) (p : Progress) → total (p .counts) ≡ n → Open p s → All (Made Block mode rate) (p .subtitles) → Kept n (close mode s p)
+  close-kept : (n : ℕ) (s : OpenSet) (p : Progress) → total (p .counts) ≡ n → length (p .subtitles) < n → Open p s → All (Made Block mode rate) (p .subtitles) → Kept n (close mode s p)
   unfolding close setNow subtitleOf
-  close-kept n s p t o m =
+  close-kept n s p t l o m =
       by-test (isComment (s .first))
       (λ e.
       rw (e, close)
-      (set-held n none p t m (λ q f. absurd (none-not-some f)) (ascends-more 0 (p .subtitles) _ _ (o .above) (omega (arith, o .below)))))
+      (set-held n none p t (omega arith) m (λ q f. absurd (none-not-some f)) (ascends-more 0 (p .subtitles) _ _ (o .above) (omega (arith, o .below)))))
       (λ e.
       by-number (textRule mode (vp (s .first)) (tokens (s .text)))
       (λ f.
       rw (e, f, close)
       (record {
         counted = t;
+        few = simp length-append (omega arith);
         made = all-append m (cons (record { opened = o .opened; subtitle = e; text = s .text; rule = f; made = refl }) nil);
         current = λ q g. absurd (none-not-some g);
         order = ascends-last 0 (p .subtitles) _ (p .least) (o .above) (o .below);
       }))
       (λ k f. rw (e, f, close) (λ z. omega arith)))
 
-  last-kept : (n : ℕ) (b : List ℕ) (s : OpenSet) (p : Progress) → total (p .counts) ≡ n → Open p s → All (Made Block mode rate) (p .subtitles) → Kept n (closeAtLast mode b s p)
+  last-kept : (n : ℕ) (b : List ℕ) (s : OpenSet) (p : Progress) → total (p .counts) ≡ n → length (p .subtitles) < n → Open p s → All (Made Block mode rate) (p .subtitles) → Kept n (closeAtLast mode b s p)
   unfolding closeAtLast
-  last-kept n b s p t o m =
+  last-kept n b s p t l o m =
       by-test (eqb (ebn b) 255)
-      (λ e. rw (e, closeAtLast) (close-kept n s p t o m))
+      (λ e. rw (e, closeAtLast) (close-kept n s p t l o m))
       (λ e.
       rw (e, closeAtLast)
-      (set-held n (some s) p t m
+      (set-held n (some s) p t (omega arith) m
       (λ q f. let z : s ≡ q = cc in subst (λ (x : OpenSet). Open p x) z o)
       (ascends-more 0 (p .subtitles) _ _ (o .above) (omega (arith, o .below)))))
 
@@ -137,6 +139,7 @@ module _ (Block : List ℕ → Type 0) (mode rate : ℕ) where
       rw (e, f, opening)
       (last-kept (suc place) b _ (firstBlock b p)
       (total-first b (p .counts) ∙ ap suc (h .counted))
+      (omega arith)
       (record {
         opened = record { block = k; least = p .least; rule = f };
         above = ascends-more 0 (p .subtitles) _ _ (h .order) (least-kept rate (p .least) b f);
@@ -154,6 +157,7 @@ module _ (Block : List ℕ → Type 0) (mode rate : ℕ) where
       rw (e, continuing)
       (last-kept (suc place) b _ (furtherBlock p)
       (total-continuation (p .counts) ∙ ap suc (h .counted))
+      (omega arith)
       (record { opened = o .opened; above = o .above; below = o .below })
       (h .made)))
       (λ e. rw (e, continuing) (λ z. omega arith))
@@ -166,6 +170,7 @@ module _ (Block : List ℕ → Type 0) (mode rate : ℕ) where
       rw (e, step)
       (record {
         counted = total-user (p .counts) ∙ ap suc (h .counted);
+        few = omega arith;
         made = h .made;
         current = λ s f. (let o = h .current s f in record { opened = o .opened; above = o .above; below = o .below });
         order = h .order;
@@ -195,7 +200,7 @@ module _ (Block : List ℕ → Type 0) (mode rate : ℕ) where
 
   start-held : Held 0 start
   unfolding start total noCounts
-  start-held = record { counted = refl; made = nil; current = λ s f. absurd (none-not-some f); order = omega arith }
+  start-held = record { counted = refl; few = omega arith; made = nil; current = λ s f. absurd (none-not-some f); order = omega arith }
 
   pub walk-held : (bs : List (List ℕ)) → All Block bs → Kept (length bs) (walk mode rate 0 start bs)
   walk-held bs k = let z : 0 + length bs ≡ length bs = omega arith in rw z at (walk-kept 0 start bs k start-held)

@@ -5,10 +5,12 @@ use native.Mathlib.Omega.{arith}
 use mathlib.Core.Path.{_≡_, refl, sym, ap, _∙_}
 use mathlib.Core.Bool.{true, false}
 use mathlib.Core.List.{List, [], _∷_}
+use lib.Dec.{leb}
 use lib.ListN.{length, drop}
+use borrow.Author.Tests.{leb-true, leb-false}
 use Rattle.meaning.specs.declared.Token.{Token}
 use Rattle.meaning.specs.Codes.{isRowEnd, tokens}
-use Rattle.meaning.proofs.Logic.{false-not-true}
+use Rattle.meaning.proofs.Logic.{by-test, false-not-true}
 use Rattle.charset.specs.declared.Reading.{Reading}
 use Rattle.charset.proofs.Laws.{ReadOn, tokens-end}
 use Rattle.rows.specs.declared.RowFacts.{RowFacts}
@@ -91,3 +93,10 @@ module _ {s : List ℕ} {i : ℕ} where
   end-over h =
       let t = tokens-end s i h in
       record { found = sym (ap endFirst t); rest = t ∙ sym (ap withoutEnd t); on = omega arith }
+
+-- a row end lies within the text
+pub ended-within : (s : List ℕ) (i : ℕ) → isEnded (tokens (drop i s)) ≡ true → i ≤ length s
+ended-within s i e =
+    by-test (leb (length s) i)
+    (λ f. absurd (false-not-true (sym ended-none ∙ sym (ap isEnded (tokens-end s i (leb-true (length s) i f))) ∙ e)))
+    (λ f. omega (arith, leb-false (length s) i f))

@@ -24,6 +24,13 @@ pub row-after : {s : List ℕ} (paired : Bool) {next : ℕ} {e : EndRead} {start
 row-after {s} true f q = record { rest = ap (λ (n : ℕ). tokens (drop n s)) q ∙ f .rest; on = omega (arith, f .on, q) }
 row-after {s} false f q = record { rest = ap (λ (n : ℕ). tokens (drop n s)) q; on = omega (arith, q) }
 
+-- what stands from the next row on
+pub next-rows :
+    {s : List ℕ} {paired : Bool} {next start : ℕ} (row : List Token) → RowAfter s paired next start → tokens (drop next s) ≡ afterRow row
+    → tokens (drop start s) ≡ nextRows paired row
+unfolding nextRows
+next-rows {paired = paired} row q e = q .rest ∙ ap (λ (ts : List Token). cond paired (withoutEnd ts) ts) e
+
 -- `row` is what stands from the row read last on; the rows after it are still to come
 pub record TextLeft (s : List ℕ) (paired : Bool) (a : TextFacts) (even more : Bool) (next : ℕ) : Type 0 where
   pub row : List Token
@@ -63,11 +70,6 @@ left-first {s} paired {r} k n e =
 
 module _ {s : List ℕ} {paired : Bool} {a : TextFacts} {even more : Bool} {next : ℕ} (l : TextLeft s paired a even more next) where
   module _ (m : more ≡ true) {e : EndRead} (f : EndFound s next e) where
-    -- what stands from the next row on
-    next-row : {start : ℕ} → RowAfter s paired next start → tokens (drop start s) ≡ nextRows paired (l .row)
-    unfolding nextRows
-    next-row q = q .rest ∙ ap (λ (ts : List Token). cond paired (withoutEnd ts) ts) (l .rest)
-
     even-next : (ts : List Token) → paired ≡ true → ts ≡ nextRows paired (l .row) → ((even && e .found) && evenFrom false ts) ≡ evenFrom false (tokens s)
     unfolding nextRows
     even-next ts p q =
@@ -87,10 +89,10 @@ module _ {s : List ℕ} {paired : Bool} {a : TextFacts} {even more : Bool} {next
           facts =
               rw g
               (row-on paired a (tokens (drop start s)) (k .facts)
-              ∙ ap (λ (ts : List Token). textFactsFrom a (rowsOf paired ts)) (next-row q)
+              ∙ ap (λ (ts : List Token). textFactsFrom a (rowsOf paired ts)) (next-rows (l .row) q (l .rest))
               ∙ ap (textFactsFrom a) (sym (rows-after paired (l .row) (sym (l .ended) ∙ m)))
               ∙ l .facts);
-          evens = λ p. even-next (tokens (drop start s)) p (next-row q);
+          evens = λ p. even-next (tokens (drop start s)) p (next-rows (l .row) q (l .rest));
           within = λ z. k .on z .1;
         }
 

@@ -43,7 +43,7 @@ fn more_up_to(limit: u32, n: u32) -> u32
     if n < limit { n + 1 } else { n }
 }
 
-fn is_row_end(t: Token) -> bool
+pub fn is_row_end(t: Token) -> bool
     ensures { λ r. ⌜ r ≡ isRowEnd t ⌝ }
 {
     match t {

@@ -1,0 +1,112 @@
+-- `decode_row` leaves a row's cells in the arrays. Each turn reads a token, and storing what is left gives what storing the whole row gives.
+-- Assumes nothing.
+use Prim.Native.Nat.{_-_}
+use native.Mathlib.Omega.{arith}
+use mathlib.Core.Path.{sym, _∙_}
+use lib.ListN.{length}
+use Rattle.charset.proofs.Laws.{read-on}
+use borrow.Author.Needs.{needs}
+use Rattle.cells.proofs.decode_row.Statement.{statement}
+use Rattle.cells.proofs.decode_row.Tie as tie
+use Rattle.cells.proofs.Decoding.{Ahead, ahead-all, ahead-small, ahead-more, ahead-row-end, ahead-text-end}
+
+abbrev Inv-loop : tie.InvT-loop
+Inv-loop text start double characters₀ looks₀ look₀ i₀ n₀ characters looks look i n = Ahead text start double characters₀ looks₀ characters looks look i n
+
+abbrev μ-loop : tie.MeasureT-loop
+μ-loop text start double characters₀ looks₀ look₀ i₀ n₀ characters looks look i n = length text - i
+
+white-on-black-requires : tie.Need-white-on-black-requires Inv-loop μ-loop
+white-on-black-requires c κs = search needs
+
+loop-holds : tie.Need-loop-holds Inv-loop μ-loop
+loop-holds c = rw (c .white-on-black .ensures) (ahead-all _ _ _ _ _)
+
+token-at-requires : tie.Need-token-at-requires Inv-loop μ-loop
+token-at-requires c κs = search needs
+
+is-row-end-requires : tie.Need-is-row-end-requires Inv-loop μ-loop
+is-row-end-requires c κs = search needs
+
+same-length : tie.Need-same-length Inv-loop μ-loop
+same-length c = search needs
+
+same-length-2 : tie.Need-same-length-2 Inv-loop μ-loop
+same-length-2 c = search needs
+
+returns : tie.Need-returns Inv-loop μ-loop
+returns c =
+    let t = c .before .before in
+    let o = read-on (t .token-at .ensures) (t .before .loop-test .taken) in
+    ahead-row-end (t .before .before .loop .inv) o (sym (c .before .is-row-end .ensures) ∙ c .if1 .taken)
+
+draw-requires : tie.Need-draw-requires Inv-loop μ-loop
+draw-requires c κs = search needs
+
+put-character-requires : tie.Need-put-character-requires Inv-loop μ-loop
+put-character-requires c κs = search needs
+
+put-look-requires : tie.Need-put-look-requires Inv-loop μ-loop
+put-look-requires c κs =
+    let d = c .before .before .before .before .before .before in
+    let e = d .before in
+    let t = e .before .before in
+    let o = read-on (t .token-at .ensures) (t .before .loop-test .taken) in
+    ahead-small (t .before .before .loop .inv) o (sym (e .before .is-row-end .ensures) ∙ e .if1 .left) (d .draw .ensures .1)
+
+add-n : tie.Need-add-n Inv-loop μ-loop
+add-n c =
+    let t = c .before .before .before .before .before .before .before .before .before .before .before .before .before in
+    let l = t .before .before in
+    omega (arith, l .loop .inv .passed, t .before .loop-test .taken, l .before .before .before .before .before .good)
+
+loop-less : tie.Need-loop-less Inv-loop μ-loop
+loop-less c =
+    let t = c .before .before .before .before .before .before .before .before .before .before .before .before .before in
+    let o = read-on (t .token-at .ensures) (t .before .loop-test .taken) in
+    omega (arith, o .on, t .before .loop-test .taken)
+
+loop-again : tie.Need-loop-again Inv-loop μ-loop
+loop-again c =
+    let l = c .before .before .before in
+    let p = l .before .before .before .before .before in
+    let d = p .before .before in
+    let e = d .before in
+    let t = e .before .before in
+    let o = read-on (t .token-at .ensures) (t .before .loop-test .taken) in
+    let s = d .draw .ensures in
+    ahead-more (t .before .before .loop .inv) o (sym (e .before .is-row-end .ensures) ∙ e .if1 .left) (s .0) (s .1) (s .2)
+    (p .put-character .ensures)
+    (l .put-look .ensures)
+
+same-length-3 : tie.Need-same-length-3 Inv-loop μ-loop
+same-length-3 c = search needs
+
+same-length-4 : tie.Need-same-length-4 Inv-loop μ-loop
+same-length-4 c = search needs
+
+returns-2 : tie.Need-returns-2 Inv-loop μ-loop
+returns-2 c = ahead-text-end (c .before .loop .inv) (c .loop-test .left)
+
+pub decode-row-spec : {M : Type 1} → statement M
+decode-row-spec =
+    tie.close
+    (tie.spec
+    Inv-loop
+    μ-loop
+    white-on-black-requires
+    loop-holds
+    token-at-requires
+    is-row-end-requires
+    same-length
+    same-length-2
+    returns
+    draw-requires
+    put-character-requires
+    put-look-requires
+    add-n
+    loop-less
+    loop-again
+    same-length-3
+    same-length-4
+    returns-2)

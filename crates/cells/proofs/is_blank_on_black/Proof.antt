@@ -1,0 +1,15 @@
+-- `is_blank_on_black` tells a blank on black of a cell in the arrays.
+-- Assumes nothing.
+use Rattle.meaning.specs.Looks.{unpack}
+use Rattle.meaning.specs.Cells.{isBlank, isBlankOnBlack}
+use borrow.Author.Needs.{needs}
+use Rattle.cells.specs.Arrays.{cellOf}
+use Rattle.cells.proofs.is_blank_on_black.Statement.{statement}
+use Rattle.cells.proofs.is_blank_on_black.Tie as tie
+
+returns : tie.Need-returns
+unfolding isBlankOnBlack isBlank cellOf unpack
+returns c = search needs
+
+pub is-blank-on-black-spec : {M : Type 1} → statement M
+is-blank-on-black-spec = tie.close (tie.spec returns)

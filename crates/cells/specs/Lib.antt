@@ -1,0 +1,4 @@
+pub mod Arrays
+pub mod Decoded
+pub mod Inks
+pub mod Ranges

@@ -1,0 +1,4 @@
+pub mod Laws
+pub mod RowLaying
+pub mod RowsLaying
+pub mod Content

@@ -1,0 +1,57 @@
+-- `put_breaks` meets its contract.
+-- Assumes nothing.
+use Prim.Native.Nat.{_-_, _≤_}
+use native.Mathlib.Omega.{arith}
+use mathlib.Core.List.{[], _∷_}
+use mathlib.Core.Path.{_≡_}
+use lib.ListN.{replicate}
+use borrow.Author.Needs.{needs}
+use Rattle.meaning.specs.Document.Piece.{br}
+use Rattle.text.proofs.Laws.{LaidLeft, left-all, left-less, left-none, breaks-next, breaks-end}
+use Rattle.text.proofs.put_breaks.Statement.{statement}
+use Rattle.text.proofs.put_breaks.Tie as tie
+
+abbrev Inv-loop : tie.InvT-loop
+Inv-loop out₀ n r₀ k₀ out r k = (k ≤ n) × LaidLeft out₀ r₀ (replicate n br) out r (replicate (n - k) br)
+
+abbrev μ-loop : tie.MeasureT-loop
+μ-loop out₀ n r₀ k₀ out r k = n - k
+
+loop-holds : tie.Need-loop-holds Inv-loop μ-loop
+loop-holds c =
+    let z : c .before .args .n - 0 ≡ c .before .args .n = omega arith in
+    (search needs, rw z (left-all _ _ _ (omega arith) (search needs) (search needs)))
+
+put-break-requires : tie.Need-put-break-requires Inv-loop μ-loop
+put-break-requires c κs = search needs
+
+add-k : tie.Need-add-k Inv-loop μ-loop
+add-k c = search needs
+
+loop-less : tie.Need-loop-less Inv-loop μ-loop
+loop-less c = search needs
+
+loop-again : tie.Need-loop-again Inv-loop μ-loop
+loop-again c =
+    let l = c .before .before .before .before .before .loop in
+    (search needs, left-less (br ∷ []) _ (rw (breaks-next _ (l .k) (c .before .before .before .before .loop-test .taken)) at (l .inv .1)) (c .before .before .put-break .ensures))
+
+same-length : tie.Need-same-length Inv-loop μ-loop
+same-length c = c .before .loop .inv .1 .wrote .same
+
+returns : tie.Need-returns Inv-loop μ-loop
+returns c = let l = c .before .loop in left-none (rw (breaks-end _ (l .k) (c .loop-test .left)) at (l .inv .1))
+
+pub put-breaks-spec : {M : Type 1} → statement M
+put-breaks-spec =
+    tie.close
+    (tie.spec
+    Inv-loop
+    μ-loop
+    loop-holds
+    put-break-requires
+    add-k
+    loop-less
+    loop-again
+    same-length
+    returns)

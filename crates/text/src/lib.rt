@@ -1,0 +1,177 @@
+// A set's text laid as the content of a paragraph: spans, line breaks and filler lines.
+
+ghost use mathlib.Core.Path.{_≡_};
+ghost use Prim.Native.Nat.{_+_, min};
+ghost use mathlib.Core.List.{[], _∷_, map};
+ghost use lib.ListN.{length, take, drop, replicate};
+ghost use Rattle.meaning.specs.Lists.{joinMap};
+ghost use Rattle.meaning.specs.Document.{escaped};
+ghost use Rattle.meaning.specs.Document.Piece.{span, br};
+ghost use Rattle.meaning.specs.Conversion.{rowSpans, fillers};
+ghost use Rattle.cells.specs.Arrays.{cellsAt, cut};
+ghost use Rattle.output.specs.Output.{Wrote, past};
+ghost use Rattle.text.specs.Laid.{Laid, RowDone, RowsDone, contentOf};
+use meaning::Lines;
+use meaning::Rows;
+use styles::Marks;
+
+// Where the next byte goes, the spans so far, and the looks in use.
+pub struct Tally {
+    pub at: usize,
+    pub spans: usize,
+    pub marks: Marks,
+}
+
+// The characters from an index up to another.
+fn put_characters(out: &mut [u8], at: usize, characters: &[u16]) -> usize
+    ensures { λ r. ⌜ Wrote (now (out .entry)) at (joinMap escaped (now (characters .entry))) (now (out .exit)) r ⌝ }
+{
+    let mut p = at;
+    let mut i = 0;
+    while i < characters.len() {
+        p = output::put_escaped(out, p, characters[i]);
+        i += 1;
+    }
+    p
+}
+
+fn one_more(n: usize) -> usize
+    ensures { λ r. ⌜ r ≡ past n 1 ⌝ }
+{
+    if n < 18446744073709551615 { n + 1 } else { n }
+}
+
+fn put_span(out: &mut [u8], t: Tally, characters: &[u16], look: usize) -> Tally
+    ensures { λ r. ⌜ Laid (now (out .entry)) t (span (record { look = look; characters = now (characters .entry) }) ∷ []) (now (out .exit)) r ⌝ }
+{
+    let p = output::put(out, t.at, b"<tt:span style=\"");
+    let p = styles::put_style_name(out, p, look);
+    let p = output::put(out, p, b"\">");
+    let p = put_characters(out, p, characters);
+    let p = output::put(out, p, b"</tt:span>");
+    let marks = t.marks;
+    Tally {
+        at: p,
+        spans: one_more(t.spans),
+        marks: marks.marked(look),
+    }
+}
+
+fn put_break(out: &mut [u8], t: Tally) -> Tally
+    ensures { λ r. ⌜ Laid (now (out .entry)) t (br ∷ []) (now (out .exit)) r ⌝ }
+{
+    let mut r = t;
+    r.at = output::put(out, t.at, b"<tt:br/>");
+    r
+}
+
+// The filler lines between what a subtitle's rows cover and the foot of the page.
+fn filler_lines(vp: u8, covered: Lines) -> u64
+    ensures { λ r. ⌜ r ≡ fillers vp covered .0 ⌝ }
+{
+    let top = vp as u64;
+    if 24 <= top {
+        return 0;
+    }
+    let left = 24 - top;
+    if left <= covered.0 {
+        0
+    } else {
+        left - covered.0
+    }
+}
+
+fn put_breaks(out: &mut [u8], t: Tally, n: u64) -> Tally
+    ensures { λ r. ⌜ Laid (now (out .entry)) t (replicate n br) (now (out .exit)) r ⌝ }
+{
+    let mut r = t;
+    let mut k = 0;
+    while k < n {
+        r = put_break(out, r);
+        k += 1;
+    }
+    r
+}
+
+// The spans of what is shown of the first n cells of two arrays.
+fn put_row(out: &mut [u8], t: Tally, characters: &[u16], looks: &[u8], n: usize) -> Tally
+    ensures { λ r. ⌜ Laid (now (out .entry)) t (map span (rowSpans (cellsAt (now (characters .entry)) (now (looks .entry)) 0 (cut (now (characters .entry)) (now (looks .entry)) n)))) (now (out .exit)) r ⌝ }
+{
+    let shown = cells::shown_range(characters, looks, n);
+    let end = shown.end;
+    let mut r = t;
+    let mut i = shown.start;
+    while i < end {
+        let s = cells::span_at(characters, looks, i, end);
+        let e = s.end;
+        r = put_span(out, r, &characters[i..e], s.look);
+        i = e;
+    }
+    r
+}
+
+// One row laid, whether a row end follows it, and the position after that.
+pub struct RowLaid {
+    pub tally: Tally,
+    pub ended: bool,
+    pub next: usize,
+}
+
+fn lay_row(out: &mut [u8], t: Tally, text: &[u8], start: usize, double: bool) -> RowLaid
+    ensures { λ r. ⌜ RowDone (now (text .entry)) start double (now (out .entry)) t (now (out .exit)) r ⌝ }
+{
+    let mut characters = [0u16; 64];
+    let mut looks = [0u8; 64];
+    let row = cells::decode_row(text, start, double, &mut characters, &mut looks);
+    let tally = put_row(out, t, &characters, &looks, row.cells);
+    RowLaid {
+        tally,
+        ended: row.ended,
+        next: row.next,
+    }
+}
+
+// All rows laid, and their number.
+pub struct RowsLaid {
+    pub tally: Tally,
+    pub rows: u32,
+}
+
+fn row_counted(n: u32) -> u32
+    ensures { λ r. ⌜ r ≡ min (n + 1) 255 ⌝ }
+{
+    if n < 255 { n + 1 } else { 255 }
+}
+
+fn lay_rows(out: &mut [u8], t: Tally, text: &[u8], double: bool, paired: bool) -> RowsLaid
+    ensures { λ r. ⌜ RowsDone (now (text .entry)) double paired (now (out .entry)) t (now (out .exit)) r ⌝ }
+{
+    let first = lay_row(out, t, text, 0, double);
+    let mut tally = first.tally;
+    let mut more = first.ended;
+    let mut next = first.next;
+    let mut rows = 1;
+    while more {
+        let start = rows::row_after(text, paired, next);
+        let broken = put_break(out, tally);
+        let row = lay_row(out, broken, text, start, double);
+        tally = row.tally;
+        more = row.ended;
+        next = row.next;
+        rows = row_counted(rows);
+    }
+    RowsLaid { tally, rows }
+}
+
+// A set's text as the content of its paragraph: its rows with a line break between them, then one for each filler line.
+// A row is cut at 64 cells, which no text within rule 15 has more of.
+pub fn put_content(out: &mut [u8], t: Tally, text: &[u8], mode: u64, vp: u8) -> Tally
+    ensures { λ r. ⌜ Laid (now (out .entry)) t (contentOf mode vp (now (text .entry))) (now (out .exit)) r ⌝ }
+{
+    let double = rows::is_double(text);
+    let paired = (mode == 2) & double;
+    let laid = lay_rows(out, t, text, double, paired);
+    let lines = Rows(laid.rows).lines(double);
+    let tally = laid.tally;
+    put_breaks(out, tally, filler_lines(vp, lines))
+}
