@@ -1,0 +1,45 @@
+-- Decimal digits one by one, and the number that they write.
+-- Assumes nothing.
+use Prim.Native.Nat.{ℕ, _+_, _*_, _-_, _<_, _≤_, _^_}
+use native.Mathlib.Nat.{pow-succ', pow-le-pow-right}
+use native.Mathlib.Numerals.{add-one}
+use native.Mathlib.Omega.{arith}
+use mathlib.Core.Bool.{true, false}
+use mathlib.Core.List.{List}
+use mathlib.Core.Path.{_≡_}
+use lib.Dec.{leb}
+use lib.ListN.{length, drop, getD, drop-of-length-le}
+use lib.Seq.{drop-cons}
+use borrow.Author.Tests.{leb-true}
+use Rattle.meaning.proofs.Logic.{and-parts}
+use Rattle.meaning.specs.Gsi.{isDigit, valueFrom}
+use Rattle.meaning.specs.Lists.{all}
+
+-- digits from an index on
+module _ (s : List ℕ) (i : ℕ) where
+  pub digit-next : i < length s → isDigit (getD s i 0) ≡ true → all isDigit (drop (i + 1) s) ≡ all isDigit (drop i s)
+  unfolding all
+  digit-next h e = rw (add-one, drop-cons s i 0 h, e, all)
+
+  pub digit-missing : i < length s → isDigit (getD s i 0) ≡ false → all isDigit (drop i s) ≡ false
+  unfolding all
+  digit-missing h e = rw (drop-cons s i 0 h, e, all)
+
+  pub value-next : i < length s → (v : ℕ) → valueFrom (10 * v + (getD s i 0 - 48)) (drop (i + 1) s) ≡ valueFrom v (drop i s)
+  unfolding valueFrom
+  value-next h v = rw (add-one, drop-cons s i 0 h)
+
+  pub digits-ended : length s ≤ i → (all isDigit (drop i s) ≡ true) × ((v : ℕ) → valueFrom v (drop i s) ≡ v)
+  unfolding all valueFrom
+  digits-ended h = (rw drop-of-length-le, λ v. rw (drop-of-length-le s h))
+
+pub digit-range : (c : ℕ) → isDigit c ≡ true → (48 ≤ c) × (c ≤ 57)
+unfolding isDigit
+digit-range c e = let p = and-parts (leb 48 c) (leb c 57) e in (leb-true 48 c (p .0), leb-true c 57 (p .1))
+
+-- i digits write a number below 10 ^ i
+pub below-next : (v d i : ℕ) → v < 10 ^ i → d ≤ 9 → 10 * v + d < 10 ^ (i + 1)
+below-next v d i h k = rw add-one (omega (arith, pow-succ' 10 i))
+
+pub below-five : (v i : ℕ) → v < 10 ^ i → i ≤ 5 → v < 100000
+below-five v i h k = omega (arith, pow-le-pow-right {n = 10} (omega arith) k)

@@ -1,0 +1,58 @@
+-- `rate` compares DFC with the two that there are.
+-- Assumes nothing.
+use mathlib.Core.Path.{sym, _∙_}
+use borrow.Author.Needs.{needs}
+use Rattle.meaning.specs.Lists.{bytes}
+use Rattle.stl.proofs.Comparing.{rate-25, rate-30, rate-none}
+use Rattle.stl.proofs.gsi.rate.Statement.{statement}
+use Rattle.stl.proofs.gsi.rate.Tie as tie
+
+field-requires : tie.Need-field-requires
+field-requires c κs = search needs
+
+slice-aggregate-same : tie.Need-slice-aggregate-same
+slice-aggregate-same c = search needs
+
+same-requires : tie.Need-same-requires
+same-requires c κs = search needs
+
+returns : tie.Need-returns
+unfolding bytes
+returns c = sym (rate-25 _ _ (c .before .before .before .field .ensures) (sym (c .before .same .ensures) ∙ c .if1 .taken))
+
+slice-aggregate-same-2 : tie.Need-slice-aggregate-same-2
+slice-aggregate-same-2 c = search needs
+
+same-requires-2 : tie.Need-same-requires-2
+same-requires-2 c κs = search needs
+
+returns-2 : tie.Need-returns-2
+unfolding bytes
+returns-2 c =
+    let d = c .before .before .before in
+    sym
+    (rate-30 _ _ (d .before .before .before .field .ensures)
+    (sym (d .before .same .ensures) ∙ d .if1 .left)
+    (sym (c .before .same2 .ensures) ∙ c .if2 .taken))
+
+returns-3 : tie.Need-returns-3
+unfolding bytes
+returns-3 c =
+    let d = c .before .before .before in
+    sym
+    (rate-none _ _ (d .before .before .before .field .ensures)
+    (sym (d .before .same .ensures) ∙ d .if1 .left)
+    (sym (c .before .same2 .ensures) ∙ c .if2 .left))
+
+pub rate-spec : {M : Type 1} → statement M
+rate-spec =
+    tie.close
+    (tie.spec
+    field-requires
+    slice-aggregate-same
+    same-requires
+    returns
+    slice-aggregate-same-2
+    same-requires-2
+    returns-2
+    returns-3)
