@@ -1,0 +1,15 @@
+-- `blocks::count_user` meets its contract.
+-- Assumes nothing.
+use borrow.Author.Needs.{needs}
+use Rattle.convert.proofs.Counting.{counted-user}
+use Rattle.convert.proofs.blocks.count_user.Statement.{statement}
+use Rattle.convert.proofs.blocks.count_user.Tie as tie
+
+more-requires : tie.Need-more-requires
+more-requires c κs = search needs
+
+returns : tie.Need-returns
+returns c = λ h. counted-user _ h (c .more .ensures)
+
+pub count-user-spec : {M : Type 1} → statement M
+count-user-spec = tie.close (tie.spec more-requires returns)

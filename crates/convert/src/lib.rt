@@ -1,0 +1,140 @@
+// From an EBU STL file to an EBU-TT document, in two passes over the file: the first measures, the second writes.
+
+ghost use mathlib.Core.Path.{_≡_};
+ghost use mathlib.Core.Bool.{false};
+ghost use mathlib.Core.List.{List, _++_, map};
+ghost use Prim.Native.Nat.{ℕ, _<_};
+ghost use lib.ListN.{length, drop, replicate};
+ghost use Rattle.meaning.specs.Lists.{joinMap};
+ghost use Rattle.meaning.specs.Blocks.{blocks};
+ghost use Rattle.meaning.specs.Sets.{Progress, start, walk};
+ghost use Rattle.meaning.specs.Sets.Outcome.{accepted};
+ghost use Rattle.meaning.specs.Document.{writeParagraph, afterParagraphs};
+ghost use Rattle.meaning.specs.Conversion.{paragraphOf, refusal, acceptance, answer, output};
+ghost use Rattle.meaning.specs.Demands.{FewestSpans};
+ghost use Rattle.output.specs.Output.{past, Wrote};
+ghost use Rattle.document.specs.Parts.{headOf};
+ghost use Rattle.convert.specs.Measuring.{Measured};
+use blocks::Walk;
+use meaning::Answer;
+use meaning::Counts;
+use styles::Marks;
+use text::Tally;
+
+mod blocks;
+
+fn refused(number: u64, place: u64, needed: u64) -> Answer
+    ensures { λ r. ⌜ r ≡ refusal number place needed ⌝ }
+{
+    Answer {
+        number,
+        place,
+        length: needed,
+        subtitles: 0,
+        comments: 0,
+        continuations: 0,
+        users: 0,
+        spans: 0,
+    }
+}
+
+fn accepted(length: u64, counts: Counts, spans: u64) -> Answer
+    ensures { λ r. ⌜ ((p : Progress) → counts ≡ p .counts → r ≡ acceptance length p spans) ⌝ }
+{
+    Answer {
+        number: 0,
+        place: 0,
+        length,
+        subtitles: counts.subtitles,
+        comments: counts.comments,
+        continuations: counts.continuations,
+        users: counts.users,
+        spans,
+    }
+}
+
+// The sum; it stays at the largest number.
+fn plus(a: usize, b: usize) -> usize
+    ensures { λ r. ⌜ r ≡ past a b ⌝ }
+{
+    if b <= 18446744073709551615 - a {
+        a + b
+    } else {
+        18446744073709551615
+    }
+}
+
+// The first pass, over a buffer of no use.
+fn measure(file: &[u8], n: usize, mode: u64, rate: u64, text: &mut [u8]) -> Walk
+    requires { ⌜ (n < 144115188075855872) × (length (now text) ≡ 26992) ⌝ }
+    ensures { λ r. ⌜ Measured r (walk mode rate 0 start (blocks n (drop 1024 (now (file .entry))))) ⌝ }
+{
+    let mut none = [0u8; 1];
+    let t = Tally {
+        at: 0,
+        spans: 0,
+        marks: Marks::clear(),
+    };
+    blocks::run(file, n, mode, rate, text, &mut none, t)
+}
+
+// The length of a document with these looks in use, whose paragraphs have the given length.
+fn length_of(rate: u8, marks: Marks, body: usize) -> usize
+    ensures { λ r. ⌜ r ≡ past (past (past 0 (length (headOf rate (marks .on)))) body) (length afterParagraphs) ⌝ }
+{
+    let mut none = [0u8; 1];
+    let head = document::put_head(&mut none, 0, rate, marks);
+    plus(plus(head, body), 28)
+}
+
+// The second pass: head, paragraphs, tail.
+fn write(
+    file: &[u8],
+    n: usize,
+    mode: u64,
+    rate: u8,
+    text: &mut [u8],
+    out: &mut [u8],
+    marks: Marks,
+) -> usize
+    requires { ⌜ (n < 144115188075855872) × (length (now text) ≡ 26992) ⌝ }
+    ensures { λ r. ⌜ ((p : Progress) → walk mode rate 0 start (blocks n (drop 1024 (now (file .entry)))) ≡ accepted p → Wrote (now (out .entry)) 0 (headOf rate (marks .on) ++ (joinMap writeParagraph (map paragraphOf (p .subtitles)) ++ afterParagraphs)) (now (out .exit)) r) ⌝ }
+{
+    let at = document::put_head(out, 0, rate, marks);
+    let t = Tally {
+        at,
+        spans: 0,
+        marks: Marks::clear(),
+    };
+    let w = blocks::run(file, n, mode, rate as u64, text, out, t);
+    let tally = w.tally;
+    document::put_tail(out, tally.at)
+}
+
+// The answer to any file, any break mode and any buffer. A refusal writes nothing; an acceptance writes the document's bytes only.
+pub fn convert(file: &[u8], mode: u64, out: &mut [u8]) -> Answer
+    ensures answer { λ r. ⌜ r ≡ answer mode (now (file .entry)) (length (now (out .entry))) ⌝ }
+    ensures buffer { λ r. ⌜ now (out .exit) ≡ output mode (now (file .entry)) (now (out .entry)) ⌝ }
+    ensures fewest { λ r. ⌜ (r .number ≡ 0 → FewestSpans mode (now (file .entry)) r (now (out .exit))) ⌝ }
+{
+    let rule = stl::file_rule(file, mode);
+    if rule != 0 {
+        return refused(rule, 0, 0);
+    }
+    let mut text = [0u8; 26992];
+    let n = stl::block_count(file);
+    let rate = stl::rate(file);
+    let w = measure(file, n, mode, rate, &mut text);
+    if w.number != 0 {
+        return refused(w.number, w.place as u64, 0);
+    }
+    let tally = w.tally;
+    let marks = tally.marks;
+    let counts = w.counts;
+    let needed = length_of(rate as u8, marks, tally.at);
+    if out.len() < needed {
+        return refused(16, 0, needed as u64);
+    }
+    write(file, n, mode, rate as u8, &mut text, out, marks);
+    accepted(needed as u64, counts, tally.spans as u64)
+}
