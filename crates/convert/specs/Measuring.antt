@@ -3,8 +3,9 @@
 use Prim.Native.Nat.{ℕ}
 use mathlib.Core.Path.{_≡_}
 use mathlib.Core.Bool.{false}
-use mathlib.Core.List.{List, map}
+use mathlib.Core.List.{List, [], _∷_, map}
 use lib.ListN.{length, replicate}
+use Rattle.meaning.specs.declared.Answer.{Answer}
 use Rattle.meaning.specs.declared.Counts.{Counts}
 use Rattle.meaning.specs.Lists.{joinMap}
 use Rattle.meaning.specs.Sets.{Progress, Outcome}
@@ -30,3 +31,8 @@ Told w (accepted p) = Tells w p
 
 pub record Measured (w : Walk) (o : Outcome) : Type 0 where
   pub told : Told w o
+
+-- the eight numbers of an answer, in document 01's order
+unfoldable pub numbersOf : Answer → List ℕ
+numbersOf a =
+    a .number ∷ a .place ∷ a .length ∷ a .subtitles ∷ a .comments ∷ a .continuations ∷ a .users ∷ a .spans ∷ []

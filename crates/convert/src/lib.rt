@@ -4,7 +4,7 @@ ghost use mathlib.Core.Path.{_≡_};
 ghost use mathlib.Core.Bool.{false};
 ghost use mathlib.Core.List.{List, _++_, map};
 ghost use Prim.Native.Nat.{ℕ, _<_};
-ghost use lib.ListN.{length, drop, replicate};
+ghost use lib.ListN.{length, set, drop, replicate};
 ghost use Rattle.meaning.specs.Lists.{joinMap};
 ghost use Rattle.meaning.specs.Blocks.{blocks};
 ghost use Rattle.meaning.specs.Sets.{Progress, start, walk};
@@ -12,9 +12,9 @@ ghost use Rattle.meaning.specs.Sets.Outcome.{accepted};
 ghost use Rattle.meaning.specs.Document.{writeParagraph, afterParagraphs};
 ghost use Rattle.meaning.specs.Conversion.{paragraphOf, refusal, acceptance, answer, output};
 ghost use Rattle.meaning.specs.Demands.{FewestSpans};
-ghost use Rattle.output.specs.Output.{past, Wrote};
+ghost use Rattle.output.specs.Output.{stored, past, Wrote};
 ghost use Rattle.document.specs.Parts.{headOf};
-ghost use Rattle.convert.specs.Measuring.{Measured};
+ghost use Rattle.convert.specs.Measuring.{Measured, numbersOf};
 use blocks::Walk;
 use meaning::Answer;
 use meaning::Counts;
@@ -137,4 +137,43 @@ pub fn convert(file: &[u8], mode: u64, out: &mut [u8]) -> Answer
     }
     write(file, n, mode, rate as u8, &mut text, out, marks);
     accepted(needed as u64, counts, tally.spans as u64)
+}
+
+fn put_number(numbers: &mut [u64], i: usize, n: u64)
+    ensures { λ _. ⌜ now (numbers .exit) ≡ set (now (numbers .entry)) i n ⌝ }
+{
+    if i < numbers.len() {
+        numbers[i] = n;
+    }
+}
+
+// The answer's numbers in document 01's order, as many as there is room for.
+fn put_answer(numbers: &mut [u64], a: Answer)
+    ensures { λ _. ⌜ now (numbers .exit) ≡ stored (now (numbers .entry)) 0 (numbersOf a) ⌝ }
+{
+    put_number(numbers, 0, a.number);
+    put_number(numbers, 1, a.place);
+    put_number(numbers, 2, a.length);
+    put_number(numbers, 3, a.subtitles);
+    put_number(numbers, 4, a.comments);
+    put_number(numbers, 5, a.continuations);
+    put_number(numbers, 6, a.users);
+    put_number(numbers, 7, a.spans);
+}
+
+// For callers in C and Rust: the refusal's number, or 0; the whole answer is stored in `numbers`.
+#[no_mangle]
+pub extern "C" fn milursake_convert(
+    file: &[u8],
+    mode: u64,
+    out: &mut [u8],
+    numbers: &mut [u64],
+) -> u64
+    ensures number { λ r. ⌜ r ≡ answer mode (now (file .entry)) (length (now (out .entry))) .number ⌝ }
+    ensures buffer { λ r. ⌜ now (out .exit) ≡ output mode (now (file .entry)) (now (out .entry)) ⌝ }
+    ensures told { λ r. ⌜ now (numbers .exit) ≡ stored (now (numbers .entry)) 0 (numbersOf (answer mode (now (file .entry)) (length (now (out .entry))))) ⌝ }
+{
+    let a = convert(file, mode, out);
+    put_answer(numbers, a);
+    a.number
 }
