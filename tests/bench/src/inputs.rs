@@ -1,0 +1,83 @@
+//! The files that are converted, made from a fixed seed.
+
+use crate::words::{colourful_row, plain_row};
+use second::assemble::{file, time, tti, Tti};
+use second::dice::Dice;
+
+/// One file, accepted or refused in break mode 1.
+pub struct Input {
+    pub name: &'static str,
+    pub file: Vec<u8>,
+}
+
+impl Input {
+    pub fn blocks(&self) -> usize {
+        (self.file.len() - 1024) / 128
+    }
+}
+
+/// The two lengths between which the growth is measured.
+pub const SHORTER: &str = "10,000 blocks";
+pub const LARGEST: &str = "largest file";
+
+const SEED: u64 = 3264;
+
+pub fn inputs() -> Vec<Input> {
+    let mut dice = Dice::new(SEED);
+    let film = film(&mut dice, 1500);
+    vec![
+        Input { name: "small file", file: file(25, &film[..5]) },
+        Input { name: "feature film", file: file(25, &film) },
+        Input { name: "colour changes", file: file(25, &colourful(&mut dice, 1500)) },
+        Input { name: "refused at its last block", file: file(25, &spoiled(film)) },
+        Input { name: SHORTER, file: file(25, &long(&mut dice, 10_000)) },
+        Input { name: LARGEST, file: file(25, &long(&mut dice, 99_999)) },
+    ]
+}
+
+/// Subtitles of two rows in double height, one block each.
+fn film(dice: &mut Dice, subtitles: usize) -> Vec<Tti> {
+    (0..subtitles).map(|number| subtitle(number, &[plain_row(dice), plain_row(dice)])).collect()
+}
+
+/// The same with a colour code before every word.
+fn colourful(dice: &mut Dice, subtitles: usize) -> Vec<Tti> {
+    (0..subtitles).map(|number| subtitle(number, &[colourful_row(dice), colourful_row(dice)])).collect()
+}
+
+/// A code that is in no table, in the last block.
+fn spoiled(mut film: Vec<Tti>) -> Vec<Tti> {
+    if let Some(last) = film.last_mut() {
+        last.text.push(0x7F);
+    }
+    film
+}
+
+/// Very long files. SN has 16 bits, so 99,999 blocks cannot be as many sets: of
+/// three sets two have an extension block. User blocks fill up the end.
+fn long(dice: &mut Dice, blocks: usize) -> Vec<Tti> {
+    let mut long = Vec::with_capacity(blocks);
+    let mut number = 0;
+    while long.len() + 5 <= blocks {
+        for block_count in [1, 2, 2] {
+            let whole = subtitle(number, &[plain_row(dice), plain_row(dice)]);
+            number += 1;
+            if block_count == 2 {
+                let (first, rest) = whole.text.split_at(whole.text.len() / 2);
+                long.push(Tti { ebn: 0x00, text: first.to_vec(), ..whole.clone() });
+                long.push(Tti { text: rest.to_vec(), ..whole });
+            } else {
+                long.push(whole);
+            }
+        }
+    }
+    long.resize(blocks, Tti { ebn: 0xFE, ..tti(b"") });
+    long
+}
+
+/// The subtitle of these rows, lines 20 to 23; one every 36 frames, so that
+/// 60,000 have their place in a day.
+fn subtitle(number: usize, rows: &[Vec<u8>; 2]) -> Tti {
+    let first = 36 * number;
+    Tti { sn: number as u16, tci: time(first, 25), tco: time(first + 30, 25), ..tti(&rows.join(&0x8A)) }
+}

@@ -1,0 +1,98 @@
+//! Compares the proved converter with the second one: `harness [N] [FIRST]`,
+//! N files (200,000) from seed FIRST (0).
+//!
+//! Status 1 if any answer or any byte of a buffer differs, or if the files are
+//! too much of one kind to say anything.
+
+mod compare;
+
+use compare::{compare, Difference};
+use second::make::{sample, Sample};
+use std::process::ExitCode;
+
+const FILES: u64 = 200_000;
+
+/// Below this the tally is printed, but not judged: a single seed can be run
+/// again by itself.
+const ENOUGH_TO_JUDGE: u64 = 20_000;
+
+/// Every so many files the odd arrays and the empty buffer are tried too.
+const ODD_CALLS: u64 = 10;
+
+fn main() -> ExitCode {
+    let Some((files, first)) = arguments() else {
+        eprintln!("usage: harness [N] [FIRST]");
+        return ExitCode::from(2);
+    };
+    let mut tally = [0u64; 17];
+    let mut differences = 0u64;
+    let mut first_difference = None;
+    for seed in first..first + files {
+        let (number, difference) = try_seed(seed);
+        tally[number as usize] += 1;
+        if let Some(difference) = difference {
+            differences += 1;
+            first_difference.get_or_insert((seed, difference));
+        }
+    }
+    print_tally(&tally, files);
+    if let Some((seed, difference)) = first_difference {
+        println!("first difference: seed {seed}, {difference}");
+    }
+    let broad = files < ENOUGH_TO_JUDGE || is_broad(&tally, files);
+    println!("harness: {files} files, {} accepted, {differences} differences", tally[0]);
+    if broad && differences == 0 {
+        ExitCode::SUCCESS
+    } else {
+        ExitCode::FAILURE
+    }
+}
+
+/// How many files, at least one, and the first seed.
+fn arguments() -> Option<(u64, u64)> {
+    let given: Result<Vec<u64>, _> = std::env::args().skip(1).map(|text| text.parse()).collect();
+    let (files, first) = match given.ok()?[..] {
+        [] => (FILES, 0),
+        [files] => (files, 0),
+        [files, first] => (files, first),
+        _ => return None,
+    };
+    (files > 0 && first.checked_add(files).is_some()).then_some((files, first))
+}
+
+/// The number of the answer, and the first difference if there is one.
+fn try_seed(seed: u64) -> (u64, Option<Difference>) {
+    let sample = sample(seed);
+    let (number, difference) = compare(&sample, sample.room, 8, seed);
+    if difference.is_some() || !seed.is_multiple_of(ODD_CALLS) {
+        return (number, difference);
+    }
+    (number, odd_calls(&sample, seed))
+}
+
+/// Arrays too short and too long, and an empty buffer.
+fn odd_calls(sample: &Sample, seed: u64) -> Option<Difference> {
+    let calls = [(sample.room, 0), (sample.room, 3), (sample.room, 11), (0, 8), (0, 0)];
+    calls.into_iter().find_map(|(room, answer_len)| compare(sample, room, answer_len, !seed).1)
+}
+
+fn print_tally(tally: &[u64; 17], files: u64) {
+    for (number, count) in tally.iter().enumerate() {
+        let name = if number == 0 { "accepted" } else { "refused" };
+        println!("{name:>8} {number:>2}: {count:>9}  {:5.2} %", 100.0 * *count as f64 / files as f64);
+    }
+}
+
+/// A third accepted, and every refusal at least once.
+fn is_broad(tally: &[u64; 17], files: u64) -> bool {
+    let mut broad = true;
+    if 3 * tally[0] < files {
+        println!("under a third of the files are accepted");
+        broad = false;
+    }
+    for number in (1..=16).filter(|&number| tally[number] == 0) {
+        println!("refusal {number} never occurred");
+        broad = false;
+    }
+    broad
+}

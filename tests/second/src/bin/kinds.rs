@@ -1,0 +1,58 @@
+//! Writes a file of every kind, `NAME.stl`, into a directory: `kinds DIR`. All
+//! are accepted in break mode 1; their documents go through an XML parser.
+
+use second::assemble::{file, tti, Tti};
+use std::path::Path;
+use std::{env, fs, io};
+
+fn main() -> io::Result<()> {
+    let directory = env::args().nth(1).ok_or(io::Error::other("usage: kinds DIR"))?;
+    for (name, file) in kinds() {
+        fs::write(Path::new(&directory).join(name).with_extension("stl"), file)?;
+    }
+    Ok(())
+}
+
+fn kinds() -> Vec<(&'static str, Vec<u8>)> {
+    vec![
+        ("empty", file(25, &[])),
+        ("single-height", file(25, &[tti(b"One row")])),
+        ("double-height", file(25, &[tti(b"\x0D\x0B\x0BHi\x03you\x0A\x0A")])),
+        ("colours", file(25, &[colours()])),
+        ("escapes", file(25, &[tti(b"\x0DTom & <Jerry> say \"it's ]]>\"")])),
+        ("accents", file(25, &accents())),
+        ("rows", file(25, &rows())),
+        ("30-frames", file(30, &[Tti { tco: [10, 0, 3, 29], ..tti(b"Thirty") }])),
+    ]
+}
+
+/// Every colour as a word and as a background.
+fn colours() -> Tti {
+    let mut text = Vec::new();
+    for code in 0..8 {
+        text.extend([code, b'a', b'b']);
+    }
+    text.push(0x8A);
+    for code in 0..8 {
+        text.extend([code, 0x1D, 7 - code, b'c']);
+    }
+    tti(&text)
+}
+
+/// Accents, signs of the Latin table of one, two and three bytes in UTF-8, and
+/// an accent whose letter stands in the next block.
+fn accents() -> [Tti; 2] {
+    let first = b"Fran\xCBcais \xC8u\xC4n\xCFz \xA4 \xA3 \xA9\xB9 \xD5 \xA0\xFF caf\xC2";
+    [Tti { ebn: 0x00, ..tti(first) }, tti(b"e")]
+}
+
+/// Four rows, one of them empty, with filler lines below; a subtitle that shows
+/// nothing; one without filler lines; a comment set, which gives no paragraph.
+fn rows() -> [Tti; 4] {
+    [
+        Tti { vp: 1, jc: 1, ..tti(b"First\x8ASecond\x8A\x8AFourth") },
+        Tti { sn: 2, jc: 3, ..tti(b"") },
+        Tti { sn: 3, jc: 0, vp: 23, ..tti(b"Last line") },
+        Tti { sn: 4, cf: 1, ..tti(b"A comment") },
+    ]
+}

@@ -1,0 +1,109 @@
+//! Test files from a seed: good ones, ones at every limit of the rules, and
+//! ones with faults. The same seed always gives the same sample.
+//!
+//! A sample is made in this order: a good file with chance in all that the
+//! rules leave open; then, in some samples, one fault or several, each aimed at
+//! one number of "What comes back" (they may hide one another, which tests the
+//! order); last, the room of the buffer.
+
+mod header;
+mod limits;
+mod ordinary;
+mod plan;
+mod sets;
+mod spoil;
+mod strange;
+mod text;
+
+use crate::convert;
+use crate::dice::Dice;
+use limits::paper_case;
+use ordinary::ordinary;
+use strange::{giant, raw_text};
+
+/// One test: the break mode, the file, and the length of the output buffer.
+#[derive(PartialEq, Eq, Debug, Clone)]
+pub struct Sample {
+    pub mode: u64,
+    pub file: Vec<u8>,
+    pub room: usize,
+}
+
+/// The sample of a seed.
+pub fn sample(seed: u64) -> Sample {
+    let mut dice = Dice::new(seed);
+    let mut plan = match dice.below(600) {
+        0..=1 => giant(&mut dice),
+        2..=89 => paper_case(&mut dice),
+        90..=125 => raw_text(&mut dice),
+        _ => ordinary(&mut dice),
+    };
+    let file = plan.file(&mut dice);
+    let room = room(&mut dice, &file, plan.mode);
+    Sample { mode: plan.mode, file, room }
+}
+
+/// Exactly long enough, one byte short, empty, or roomy.
+fn room(dice: &mut Dice, file: &[u8], mode: u64) -> usize {
+    // No document is empty, so an empty buffer asks for the length needed.
+    let needed = convert(file, mode, &mut []).length as usize;
+    if needed == 0 {
+        return dice.pick(&[0, 1, 100, 2048, 4096]);
+    }
+    match dice.below(100) {
+        0..=3 => needed - 1,
+        4 => 0,
+        5 => dice.below(needed),
+        6..=30 => needed,
+        31..=45 => needed + 1,
+        46..=90 => needed + dice.between(1, 100),
+        _ => needed + 4096,
+    }
+}
+
+#[cfg(test)]
+mod tests {
+    use super::header::frame;
+    use super::ordinary::with_faults;
+    use super::text::bad_fragment;
+    use super::*;
+    use crate::assemble::time;
+
+    #[test]
+    fn same_seed_same_sample() {
+        for seed in 0..200 {
+            assert_eq!(sample(seed), sample(seed));
+        }
+        assert_ne!(sample(1), sample(2));
+    }
+
+    #[test]
+    fn bad_fragments_are_refused() {
+        let mut dice = Dice::new(1);
+        for _ in 0..5000 {
+            let fragment = bad_fragment(&mut dice);
+            let read = crate::text::read(&fragment, crate::text::BreakMode::One, 1);
+            assert_eq!(read, Err(crate::Reason::Code), "{fragment:02X?}");
+        }
+    }
+
+    #[test]
+    fn plans_without_faults_are_accepted() {
+        for seed in 0..5000 {
+            let mut dice = Dice::new(seed);
+            let mut plan = with_faults(&mut dice, vec![]);
+            let file = plan.file(&mut dice);
+            assert_eq!(convert(&file, plan.mode, &mut []).number, 16, "seed {seed}");
+        }
+    }
+
+    #[test]
+    fn frames_and_times() {
+        for rate in [25, 30] {
+            for number in [0, 1, rate - 1, rate, 60 * rate, 3600 * rate - 1, 24 * 3600 * rate - 1] {
+                assert_eq!(frame(&time(number, rate), rate), number);
+            }
+        }
+        assert_eq!(time(24 * 3600 * 30 - 1, 30), [23, 59, 59, 29]);
+    }
+}

@@ -1,0 +1,92 @@
+//! Short texts of any codes, and the largest sets.
+
+use super::header::good_header;
+use super::ordinary::subtitle_set;
+use super::plan::{Plan, EBN};
+use super::sets::{comment_blocks, pieces, set, user_block};
+use super::text::{any_pair, good_position, text_of_rows, SOUP};
+use crate::dice::Dice;
+
+/// Short texts of codes that are picked with little care: every code, every
+/// accent with every letter, and many controls.
+pub(super) fn raw_text(dice: &mut Dice) -> Plan {
+    let mut plan = Plan::new(dice);
+    let header = good_header(dice, 1, plan.rate);
+    let text: Vec<u8> = match dice.below(8) {
+        // One code of all 256.
+        0 => vec![dice.byte()],
+        1 => vec![b'x', dice.byte(), b'y'],
+        // An accent with a letter.
+        2..=4 => any_pair(dice).to_vec(),
+        // Controls in any order.
+        5 => (0..dice.between(1, 12)).map(|_| dice.pick(SOUP)).collect(),
+        6 => (0..dice.between(1, 30))
+            .map(|_| dice.pick(b"\x0D\x0D\x01\x07\x1D\x1C\x0B AB\x8A\x8A\x8A\xA0"))
+            .collect(),
+        _ => (0..dice.between(0, 4)).map(|_| dice.byte()).collect(),
+    };
+    let position = dice.pick(&[1, 1, 10, 20, 22, 23]);
+    let pieces = pieces(dice, &text);
+    let blocks = set(dice, &header, position, &pieces);
+    plan.blocks.extend(blocks);
+    plan
+}
+
+/// Sets of 241 blocks, the most there can be, and of one more.
+pub(super) fn giant(dice: &mut Dice) -> Plan {
+    let mut plan = Plan::new(dice);
+    let sn = dice.pick(&[1, 300]);
+    let mut blocks = if dice.chance(25) {
+        comment_blocks(dice, sn, 241)
+    } else {
+        let rows = dice.between(1, 11);
+        let double = dice.chance(50);
+        let text = text_of_rows(dice, rows, double);
+        let position = good_position(dice, text.lines());
+        let bytes = text.joined(plan.mode);
+        let header = good_header(dice, sn, plan.rate);
+        // The text in 241 pieces, most of them short.
+        let mut pieces: Vec<Vec<u8>> = vec![Vec::new(); 241];
+        let start = dice.between(0, 200);
+        for (at, &byte) in bytes.iter().enumerate() {
+            pieces[(start + at / 8).min(240)].push(byte);
+        }
+        for piece in &mut pieces {
+            piece.truncate(112);
+        }
+        set(dice, &header, position, &pieces)
+    };
+    let fault = dice.below(8);
+    match fault {
+        // A 242nd block, F0h after EFh.
+        0 | 1 => {
+            let mut block = blocks[239];
+            block[EBN] = dice.pick(&[0xF0, 0xF0, 0x00, 0xEF, 0xF1]);
+            blocks.insert(240, block);
+        }
+        // Open at the end.
+        2 => {
+            blocks.pop();
+        }
+        // A gap.
+        3 => {
+            let at = dice.between(0, 239);
+            blocks.remove(at);
+        }
+        _ => {}
+    }
+    plan.blocks = blocks;
+    if dice.chance(50) {
+        for _ in 0..dice.between(1, 5) {
+            let at = dice.between(0, plan.blocks.len());
+            let block = user_block(dice);
+            plan.blocks.insert(at, block);
+        }
+    }
+    if dice.chance(50) {
+        let sn = dice.pick(&[sn, sn + 1, sn + 1, sn + 1]);
+        let after = subtitle_set(dice, sn, plan.mode, plan.rate, &[]);
+        plan.blocks.extend(after);
+    }
+    plan
+}

@@ -1,0 +1,172 @@
+//! Texts of good sets, and fragments that are refused.
+
+use crate::characters::composed;
+use crate::dice::Dice;
+
+/// Codes that are characters, those which the table leaves empty and the
+/// accents left out.
+pub(super) fn good_character(dice: &mut Dice) -> u8 {
+    loop {
+        let code = match dice.below(3) {
+            0 => dice.byte_between(0x20, 0x7E),
+            1 => dice.byte_between(0xA0, 0xFF),
+            _ => dice.byte_between(0x61, 0x7A),
+        };
+        if !matches!(code, 0xA6 | 0xA8 | 0xC0..=0xCF | 0xD8..=0xDB | 0xE5) {
+            return code;
+        }
+    }
+}
+
+/// An accent and a letter that have a composed letter.
+pub(super) fn good_pair(dice: &mut Dice) -> [u8; 2] {
+    loop {
+        let pair = any_pair(dice);
+        if composed(pair[0], pair[1]).is_some() {
+            return pair;
+        }
+    }
+}
+
+/// Any accent, C9h and CCh among them, and any letter.
+pub(super) fn any_pair(dice: &mut Dice) -> [u8; 2] {
+    [dice.byte_between(0xC1, 0xCF), dice.byte_between(b'A', b'Z') + dice.pick(&[0, 32])]
+}
+
+/// Fragments of text that are refused with 13, unless chance puts an accent
+/// before them or a letter after them.
+pub(super) fn bad_fragment(dice: &mut Dice) -> Vec<u8> {
+    let listed = dice.pick(&[0xC1, 0xC2, 0xC3, 0xC4, 0xC5, 0xC6, 0xC7, 0xC8, 0xCA, 0xCB, 0xCD, 0xCE, 0xCF]);
+    let letter = dice.byte_between(b'a', b'z');
+    match dice.below(12) {
+        0 => vec![dice.pick(&[0x08, 0x09, 0x0C, 0x0E, 0x0F, 0x1B, 0x1E, 0x1F])],
+        1 => vec![dice.byte_between(0x0E, 0x1B)],
+        2 => vec![dice.pick(&[0x7F, 0x80, 0x81, 0x84, 0x85, 0x89, 0x8B, 0x8E, 0x90, 0x9F])],
+        3 => vec![dice.byte_between(0x90, 0x9F)],
+        4 => vec![dice.pick(&[0xA6, 0xA8, 0xC0, 0xD8, 0xD9, 0xDA, 0xDB, 0xE5])],
+        5 => vec![dice.pick(&[0xC9, 0xCC]), letter],
+        6 => vec![listed, dice.pick(&[0x20, 0x07, 0x0D, 0x1D, 0x8A, 0xA0, 0x40, 0x5B, 0x60, 0x7B])],
+        7 => vec![listed, listed, letter],
+        8 => vec![listed, dice.pick(&[0x01, 0x8A, 0xC2]), letter],
+        9 => vec![0xCD, dice.pick(b"aeicxq")],
+        10 => vec![dice.pick(&[0xC1, 0xC2, 0xC6, 0xCA, 0xCB, 0xCE]), dice.pick(b"bjqxQJB")],
+        _ => vec![listed, dice.pick(b"0139,./")],
+    }
+}
+
+/// Codes that make rows of many colours.
+pub(super) const SOUP: &[u8] =
+    b"\x00\x01\x02\x03\x04\x05\x06\x07\x01\x07\x0A\x0B\x1C\x1D\x1D\x1C   ABab\xA0&";
+
+/// Fewer colours, so that spans meet again.
+pub(super) const THIN_SOUP: &[u8] = b"\x01\x01\x07\x07\x1D\x1C  AB\xA0\x0B";
+
+/// A row of at most 60 cells, which leaves room for what is put in later.
+pub(super) fn good_row(dice: &mut Dice) -> Vec<u8> {
+    let length = match dice.below(40) {
+        0 => 0,
+        1..=2 => 60,
+        3..=7 => dice.between(20, 60),
+        8..=12 => dice.between(0, 3),
+        _ => dice.between(2, 14),
+    };
+    row_of(dice, length)
+}
+
+/// A row of exactly so many cells.
+pub(super) fn row_of(dice: &mut Dice, length: usize) -> Vec<u8> {
+    let flavour = dice.below(8);
+    let mut row = Vec::with_capacity(length + 8);
+    for cell in 0..length {
+        match flavour {
+            // Words between boxes, as files in use have them.
+            0 | 1 => match cell {
+                0 | 1 => row.push(0x0B),
+                _ if cell + 2 >= length => row.push(0x0A),
+                _ if dice.chance(15) => row.push(dice.pick(b" \x01\x03\x06\x07")),
+                _ => row.push(dice.byte_between(b'a', b'z')),
+            },
+            2 | 3 => row.push(dice.pick(SOUP)),
+            4 => row.push(dice.pick(THIN_SOUP)),
+            5 => row.push(good_character(dice)),
+            6 if dice.chance(50) => row.extend(good_pair(dice)),
+            6 => row.push(dice.pick(b"<>&'\" aeiou")),
+            // Colour on background, blanks of all sorts at the ends.
+            _ => match cell {
+                0 => row.push(dice.byte_between(0, 7)),
+                1 => row.push(0x1D),
+                2 => row.push(dice.byte_between(0, 7)),
+                _ if cell + 3 >= length => row.push(dice.pick(b" \x07\x1C\x0A\x1D\xA0x")),
+                _ => row.push(dice.byte_between(b'A', b'Z')),
+            },
+        }
+    }
+    row
+}
+
+/// The rows of a good text.
+pub(super) struct Text {
+    pub(super) rows: Vec<Vec<u8>>,
+    pub(super) double: bool,
+}
+
+impl Text {
+    pub(super) fn lines(&self) -> usize {
+        self.rows.len() * if self.double { 2 } else { 1 }
+    }
+
+    /// The rows joined by the row ends of the break mode.
+    pub(super) fn joined(&self, mode: u64) -> Vec<u8> {
+        let end: &[u8] = if self.double && mode == 2 { b"\x8A\x8A" } else { b"\x8A" };
+        self.rows.join(end)
+    }
+}
+
+pub(super) fn good_text(dice: &mut Dice) -> Text {
+    let double = dice.chance(50);
+    let most = if double { 11 } else { 23 };
+    let rows = match dice.below(60) {
+        0 => most,
+        1 | 2 => dice.between(1, most),
+        3..=10 => 3,
+        11..=25 => 2,
+        _ => 1,
+    };
+    text_of_rows(dice, rows, double)
+}
+
+pub(super) fn text_of_rows(dice: &mut Dice, count: usize, double: bool) -> Text {
+    let mut rows: Vec<Vec<u8>> = (0..count).map(|_| good_row(dice)).collect();
+    for row in rows.iter_mut() {
+        // Rows of exactly 63 and 64 cells, controls included.
+        if dice.chance(2) {
+            let length = dice.pick(&[63, 64]);
+            *row = row_of(dice, length - usize::from(double));
+        }
+    }
+    if double {
+        for (number, row) in rows.iter_mut().enumerate() {
+            // In the first row always, in a later one perhaps, and not always
+            // as the first code.
+            if number > 0 && dice.chance(50) {
+                continue;
+            }
+            let controls = row.iter().take_while(|&&code| code < 0x20).count();
+            let at = if dice.chance(70) { 0 } else { dice.between(0, controls) };
+            row.insert(at, 0x0D);
+        }
+    }
+    Text { rows, double }
+}
+
+/// The highest VP at which the text fits, or a lower one.
+pub(super) fn good_position(dice: &mut Dice, lines: usize) -> u8 {
+    let highest = 24 - lines;
+    let position = match dice.below(4) {
+        0 => highest,
+        1 => dice.between(1, highest),
+        2 => dice.pick(&[1, 2, 20, 22]).min(highest),
+        _ => dice.between(highest.saturating_sub(4).max(1), highest),
+    };
+    position as u8
+}
