@@ -232,7 +232,7 @@ fn step(
 }
 
 // The walk over all n blocks, from a tally on. A set open at the end is refused at the block count.
-pub fn run(
+pub(crate) fn run(
     file: &[u8],
     n: usize,
     mode: u64,
