@@ -17,10 +17,10 @@ use Rattle.meaning.proofs.Logic.{by-number, and-parts, or-second}
 use Rattle.output.specs.Output.{past, Wrote}
 use Rattle.output.proofs.Laws.{stored-fits}
 use Rattle.text.specs.declared.Tally.{Tally}
-use Rattle.stl.specs.declared.Header.{Header}
-use Rattle.stl.specs.BlockAt.{blockAt}
-use Rattle.stl.specs.IsHeader.{IsHeader}
-use Rattle.stl.proofs.Laws.{block-short, text-short}
+use Rattle.block.specs.declared.Header.{Header}
+use Rattle.block.specs.BlockAt.{blockAt}
+use Rattle.block.specs.IsHeader.{IsHeader}
+use Rattle.block.proofs.Laws.{block-short, text-short}
 use Rattle.convert.specs.declared.blocks.Walk.{Walk}
 use Rattle.convert.specs.Following.{setOf, KeepsIn, Holds, Answers, FirstBlock, FurtherBlock}
 

@@ -19,8 +19,8 @@ use Rattle.meaning.specs.Document.{Paragraph}
 use Rattle.meaning.specs.Conversion.{paragraphOf}
 use Rattle.meaning.proofs.Logic.{by-number, false-not-true}
 use Rattle.text.specs.declared.Tally.{Tally}
-use Rattle.stl.specs.declared.Header.{Header}
-use Rattle.stl.specs.IsHeader.{IsHeader}
+use Rattle.block.specs.declared.Header.{Header}
+use Rattle.block.specs.IsHeader.{IsHeader}
 use Rattle.document.specs.Parts.{paragraphFor, ParagraphLaid}
 use Rattle.convert.specs.declared.blocks.Walk.{Walk}
 use Rattle.convert.specs.Following.{setOf, currentOf, AllLaid, Keeps, KeepsIn, Follows, Holds, Answers}

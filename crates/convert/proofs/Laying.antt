@@ -22,8 +22,8 @@ use Rattle.text.specs.declared.Tally.{Tally}
 use Rattle.text.specs.Laid.{markedWith, contentOf}
 use Rattle.text.proofs.Laws.{past-past}
 use Rattle.text.proofs.Content.{content-whole}
-use Rattle.stl.specs.declared.Header.{Header}
-use Rattle.stl.specs.IsHeader.{timeOf, IsHeader}
+use Rattle.block.specs.declared.Header.{Header}
+use Rattle.block.specs.IsHeader.{timeOf, IsHeader}
 use Rattle.document.specs.Parts.{paragraphFor, ParagraphLaid}
 use Rattle.convert.specs.Following.{markedAll, AllLaid}
 

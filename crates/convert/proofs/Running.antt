@@ -18,8 +18,8 @@ use Rattle.meaning.proofs.Walk.{total}
 use Rattle.output.specs.Output.{past}
 use Rattle.output.proofs.Laws.{wrote-nothing, wrote-length}
 use Rattle.text.specs.declared.Tally.{Tally}
-use Rattle.stl.specs.BlockAt.{blockAt}
-use Rattle.stl.proofs.Laws.{blocks-next}
+use Rattle.block.specs.BlockAt.{blockAt}
+use Rattle.block.proofs.Laws.{blocks-next}
 use Rattle.convert.specs.declared.blocks.Walk.{Walk}
 use Rattle.convert.specs.Following.{markedAll, setOf, currentOf, Keeps, KeepsIn, Follows, Answers, Ends, resume}
 use Rattle.convert.proofs.Closing.{shut, open-now, follows-shut}

@@ -17,9 +17,9 @@ use Rattle.output.specs.Output.{past, Wrote}
 use Rattle.styles.specs.declared.Marks.{Marks}
 use Rattle.text.specs.declared.Tally.{Tally}
 use Rattle.text.specs.Laid.{markedWith}
-use Rattle.stl.specs.declared.Header.{Header}
-use Rattle.stl.specs.BlockAt.{blockAt}
-use Rattle.stl.specs.IsHeader.{IsHeader}
+use Rattle.block.specs.declared.Header.{Header}
+use Rattle.block.specs.BlockAt.{blockAt}
+use Rattle.block.specs.IsHeader.{IsHeader}
 use Rattle.convert.specs.declared.blocks.Walk.{Walk}
 
 -- the marks with the looks of paragraphs set

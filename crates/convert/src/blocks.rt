@@ -10,12 +10,12 @@ ghost use Rattle.meaning.proofs.Walk.{total};
 ghost use Rattle.meaning.specs.Sets.{OpenSet, Progress, countUser, countContinuation, countFirst, userBlock, firstBlock, furtherBlock, belongs, close, closeAtLast, opening, continuing, step, start, walk};
 ghost use Rattle.meaning.specs.Blocks.{blocks};
 ghost use Rattle.output.specs.Output.{past};
-ghost use Rattle.stl.specs.BlockAt.{blockAt};
-ghost use Rattle.stl.specs.IsHeader.{IsHeader};
+ghost use Rattle.block.specs.BlockAt.{blockAt};
+ghost use Rattle.block.specs.IsHeader.{IsHeader};
 ghost use Rattle.text.specs.declared.Tally.{Tally};
 ghost use Rattle.convert.specs.Following.{setOf, KeepsIn, Follows, Holds, Answers, Ended, FirstBlock, FurtherBlock};
+use block::Header;
 use meaning::Counts;
-use stl::Header;
 use text::Tally;
 
 // The state of the walk: the refusal, if there is one, and its place; the least SN that the next set may have; the open
@@ -220,12 +220,12 @@ fn step(
     requires { ⌜ (w .open ≡ true → (w .size ≤ 112 * w .next) × (w .next ≤ 240)) × (length (now text) ≡ 26992) ⌝ }
     ensures { λ r. ⌜ ((buf : List ℕ) (t : Tally) (p : Progress) → k < 144115188075855872 → Follows (now (file .entry)) buf t (now (text .entry)) (now (out .entry)) k w p → Answers (now (file .entry)) buf t (now (text .exit)) (now (out .exit)) (suc k) r (step mode rate k (blockAt (now (file .entry)) k) p)) ⌝ }
 {
-    let h = stl::header_at(file, k);
+    let h = block::header_at(file, k);
     if h.ebn == 254 {
         return user_block(w);
     }
     if w.open {
-        let first = stl::header_at(file, w.first);
+        let first = block::header_at(file, w.first);
         return continuing(file, k, mode, text, out, w, first, h);
     }
     opening(file, k, mode, rate, text, out, w, h)

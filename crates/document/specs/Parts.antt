@@ -10,8 +10,8 @@ use Rattle.meaning.specs.Conversion.{alignmentOf}
 use Rattle.output.specs.Output.{past, Wrote}
 use Rattle.styles.specs.declared.Marks.{Marks}
 use Rattle.styles.specs.Styles.{looksMarked}
-use Rattle.stl.specs.declared.Header.{Header}
-use Rattle.stl.specs.IsHeader.{timeOf}
+use Rattle.block.specs.declared.Header.{Header}
+use Rattle.block.specs.IsHeader.{timeOf}
 use Rattle.text.specs.declared.Tally.{Tally}
 use Rattle.text.specs.Laid.{markedWith, contentOf}
 

@@ -4,10 +4,10 @@ ghost use mathlib.Core.Path.{_≡_};
 ghost use Rattle.meaning.specs.Document.{writeTime, alignmentName, afterParagraphs};
 ghost use Rattle.meaning.specs.Conversion.{alignmentOf};
 ghost use Rattle.output.specs.Output.{Wrote};
-ghost use Rattle.stl.specs.IsHeader.{timeOf};
+ghost use Rattle.block.specs.IsHeader.{timeOf};
 ghost use Rattle.document.specs.Parts.{headOf, paragraphFor, ParagraphLaid};
-use stl::Header;
-use stl::Time;
+use block::Header;
+use block::Time;
 use styles::Marks;
 use text::Tally;
 

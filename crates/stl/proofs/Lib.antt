@@ -1,7 +1,3 @@
-pub mod Laws
-pub mod Fields
-pub mod Ends
-pub mod Headers
 pub mod Comparing
 pub mod Digits
 pub mod Times

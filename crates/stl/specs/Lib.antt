@@ -1,3 +1,1 @@
-pub mod BlockAt
 pub mod InTurn
-pub mod IsHeader

@@ -7,8 +7,8 @@ ghost use lib.Dec.{leb, eqb};
 ghost use lib.ListN.{length, getD};
 ghost use Rattle.meaning.specs.Lists.{all, same};
 ghost use Rattle.meaning.specs.Gsi.{rateOf, blockCount, isDigit, valueFrom, fileRule};
-use crate::field;
 use crate::rules::in_turn;
+use block::field;
 
 fn same(a: &[u8], b: &[u8]) -> bool
     ensures { λ r. ⌜ r ≡ same (now (a .entry)) (now (b .entry)) ⌝ }

@@ -7,9 +7,9 @@ ghost use lib.Dec.{leb};
 ghost use Prim.Native.Nat.{ℕ, _+_, _*_};
 ghost use Rattle.meaning.specs.Blocks.{timeInRange, timesRight, firstBlockRule};
 ghost use Rattle.stl.specs.InTurn.{inTurn};
-ghost use Rattle.stl.specs.IsHeader.{timeOf, IsHeader};
-use crate::Header;
-use crate::Time;
+ghost use Rattle.block.specs.IsHeader.{timeOf, IsHeader};
+use block::Header;
+use block::Time;
 
 // Every rule is tested; of those that fail the first counts.
 pub(crate) fn in_turn(first: u64, number: u64, holds: bool) -> u64

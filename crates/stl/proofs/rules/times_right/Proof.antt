@@ -2,7 +2,7 @@
 -- Assumes nothing.
 use borrow.Author.Needs.{needs}
 use Rattle.meaning.specs.Blocks.{inFrames}
-use Rattle.stl.specs.IsHeader.{timeOf}
+use Rattle.block.specs.IsHeader.{timeOf}
 use Rattle.stl.proofs.Times as times
 use Rattle.stl.proofs.rules.times_right.Statement.{statement}
 use Rattle.stl.proofs.rules.times_right.Tie as tie

@@ -1,4 +1,4 @@
--- `put_text` writes the part that `text_part` lends.
+-- `put_text` writes the part that `text_at` lends.
 -- Assumes nothing.
 use mathlib.Core.Path.{sym}
 use borrow.Author.Needs.{needs}
@@ -6,8 +6,8 @@ use Rattle.output.proofs.Laws.{wrote-as}
 use Rattle.stl.proofs.text.put_text.Statement.{statement}
 use Rattle.stl.proofs.text.put_text.Tie as tie
 
-text-part-requires : tie.Need-text-part-requires
-text-part-requires c κs = search needs
+text-at-requires : tie.Need-text-at-requires
+text-at-requires c κs = search needs
 
 put-requires : tie.Need-put-requires
 put-requires c κs = search needs
@@ -16,7 +16,7 @@ same-length : tie.Need-same-length
 same-length c = search needs
 
 returns : tie.Need-returns
-returns c = wrote-as (sym (c .before .before .before .text-part .ensures)) (c .before .before .put .ensures)
+returns c = wrote-as (sym (c .before .before .before .text-at .ensures)) (c .before .before .put .ensures)
 
 pub put-text-spec : {M : Type 1} → statement M
-put-text-spec = tie.close (tie.spec text-part-requires put-requires same-length returns)
+put-text-spec = tie.close (tie.spec text-at-requires put-requires same-length returns)

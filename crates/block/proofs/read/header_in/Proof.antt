@@ -1,0 +1,48 @@
+-- `header_in` reads a whole header where it stands, and what is cut off reads as 0.
+-- Assumes nothing.
+use Prim.Native.Nat.{_≤_, ℕ}
+use native.Mathlib.Omega.{arith}
+use lib.ListN.{length, length-replicate}
+use borrow.Author.Needs.{needs}
+use Rattle.output.proofs.Laws.{wrote-placed}
+use Rattle.block.proofs.Headers.{header-filled}
+use Rattle.block.proofs.read.header_in.Statement.{statement}
+use Rattle.block.proofs.read.header_in.Tie as tie
+
+header-of-requires : tie.Need-header-of-requires
+header-of-requires c κs = search needs
+
+returns : tie.Need-returns
+returns c = c .header-of .ensures
+
+slice-aggregate-put : tie.Need-slice-aggregate-put
+slice-aggregate-put c = search needs
+
+put-requires : tie.Need-put-requires
+put-requires c κs = search needs
+
+slice-aggregate-header-of : tie.Need-slice-aggregate-header-of
+slice-aggregate-header-of c = search needs
+
+header-of-requires-2 : tie.Need-header-of-requires-2
+header-of-requires-2 c κs = search needs
+
+returns-2 : tie.Need-returns-2
+returns-2 c =
+    let p = c .before .before .before in
+    let b = p .before .before .before .before .args .b .now in
+    let s : length b ≤ 16 = omega arith in
+    let w = wrote-placed (p .put .ensures) (omega (arith, length-replicate {A = ℕ} 16 0)) in
+    header-filled b 16 (rw w at (c .header-of2 .ensures))
+
+pub header-in-spec : {M : Type 1} → statement M
+header-in-spec =
+    tie.close
+    (tie.spec
+    header-of-requires
+    returns
+    slice-aggregate-put
+    put-requires
+    slice-aggregate-header-of
+    header-of-requires-2
+    returns-2)

@@ -1,0 +1,47 @@
+// Parts of a slice that end where the slice ends, and the bytes of a block.
+
+ghost use mathlib.Core.Path.{_≡_};
+ghost use Prim.Native.Nat.{_+_, _*_, min};
+ghost use lib.ListN.{drop};
+ghost use Rattle.meaning.specs.Gsi.{field};
+ghost use Rattle.block.specs.BlockAt.{blockAt};
+
+// Where a block starts, at most the file's end: no place is too large to multiply.
+fn start_of(size: usize, k: usize) -> usize
+    ensures { λ r. ⌜ r ≡ min (1024 + 128 * k) size ⌝ }
+{
+    if size < 1024 {
+        return size;
+    }
+    if (size - 1024) / 128 < k {
+        return size;
+    }
+    1024 + 128 * k
+}
+
+// The bytes from an offset on, none past the end.
+pub(crate) fn rest(s: &[u8], from: usize) -> &[u8]
+    ensures { λ r. ⌜ now r ≡ drop from (now (s .entry)) ⌝ }
+{
+    if s.len() <= from {
+        return &s[..0];
+    }
+    &s[from..]
+}
+
+// The n bytes from an offset on, or as many as there are.
+pub fn field(s: &[u8], from: usize, n: usize) -> &[u8]
+    ensures { λ r. ⌜ now r ≡ field from n (now (s .entry)) ⌝ }
+{
+    let all = rest(s, from);
+    if all.len() <= n {
+        return all;
+    }
+    &all[..n]
+}
+
+pub(crate) fn bytes_at(file: &[u8], k: usize) -> &[u8]
+    ensures { λ r. ⌜ now r ≡ blockAt (now (file .entry)) k ⌝ }
+{
+    field(file, start_of(file.len(), k), 128)
+}

@@ -1,0 +1,80 @@
+// The header and the text of a block, read from its bytes.
+
+ghost use mathlib.Core.Path.{_≡_};
+ghost use Prim.Native.Nat.{_+_, _*_, _≤_};
+ghost use lib.ListN.{length};
+ghost use Rattle.meaning.specs.Blocks.{timeAt, beforeEnd, blockText};
+ghost use Rattle.block.specs.IsHeader.{timeOf, IsHeader};
+use crate::Header;
+use crate::Time;
+use crate::parts::rest;
+
+// The low byte comes first.
+fn number(low: u8, high: u8) -> u16
+    ensures { λ r. ⌜ r ≡ low + 256 * high ⌝ }
+{
+    low as u16 + 256 * high as u16
+}
+
+fn time_at(b: &[u8], i: usize) -> Time
+    requires { ⌜ i + 4 ≤ length (now b) ⌝ }
+    ensures { λ r. ⌜ timeOf r ≡ timeAt i (now (b .entry)) ⌝ }
+{
+    Time {
+        hours: b[i],
+        minutes: b[1 + i],
+        seconds: b[2 + i],
+        frames: b[3 + i],
+    }
+}
+
+fn header_of(b: &[u8]) -> Header
+    requires { ⌜ 16 ≤ length (now b) ⌝ }
+    ensures { λ r. ⌜ IsHeader (now (b .entry)) r ⌝ }
+{
+    Header {
+        sgn: b[0],
+        sn: number(b[1], b[2]),
+        ebn: b[3],
+        cs: b[4],
+        tci: time_at(b, 5),
+        tco: time_at(b, 9),
+        vp: b[13],
+        jc: b[14],
+        cf: b[15],
+    }
+}
+
+// Bytes past the block's end read as 0.
+pub(crate) fn header_in(b: &[u8]) -> Header
+    ensures { λ r. ⌜ IsHeader (now (b .entry)) r ⌝ }
+{
+    if 16 <= b.len() {
+        return header_of(b);
+    }
+    let mut filled = [0u8; 16];
+    output::put(&mut filled, 0, b);
+    header_of(&filled)
+}
+
+// How many bytes stand before the first 8Fh.
+fn length_before_end(text: &[u8]) -> usize
+    ensures { λ r. ⌜ r ≡ length (beforeEnd (now (text .entry))) ⌝ }
+{
+    let mut i = 0;
+    while i < text.len() {
+        if text[i] == 0x8F {
+            return i;
+        }
+        i += 1;
+    }
+    i
+}
+
+pub(crate) fn text_in(b: &[u8]) -> &[u8]
+    ensures { λ r. ⌜ now r ≡ blockText (now (b .entry)) ⌝ }
+{
+    let text = rest(b, 16);
+    let n = length_before_end(text);
+    &text[..n]
+}
