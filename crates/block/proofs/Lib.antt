@@ -2,6 +2,6 @@ pub mod Laws
 pub mod Fields
 pub mod Ends
 pub mod Headers
-pub mod Results
+pub mod Walks
 pub mod Take
 pub mod Through

@@ -4,7 +4,7 @@ use contract.Running.{givenOf}
 use Rattle.block.specs.IsHeader.{IsHeader}
 use Rattle.block.proofs.Block.header.Symbol as next
 use Rattle.block.proofs.Block.header.Met as next-thm
-use Rattle.block.proofs.Results.{header, header-ty, header-typed}
+use Rattle.block.proofs.Walks.{header, header-ty, header-typed}
 use Rattle.block.proofs.Through.{through-spec}
 use Rattle.block.proofs.header_at.Key as key
 use Rattle.block.proofs.header_at.Statement as stated

@@ -6,7 +6,7 @@ use denote.Ref.{now}
 use Rattle.meaning.specs.Blocks.{blockText}
 use Rattle.block.proofs.Block.text.Symbol as next
 use Rattle.block.proofs.Block.text.Met as next-thm
-use Rattle.block.proofs.Results.{part, part-ty, part-typed}
+use Rattle.block.proofs.Walks.{part, part-ty, part-typed}
 use Rattle.block.proofs.Through.{through-spec}
 use Rattle.block.proofs.text_at.Key as key
 use Rattle.block.proofs.text_at.Statement as stated

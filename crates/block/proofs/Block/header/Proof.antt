@@ -4,7 +4,7 @@ use contract.Running.{givenOf}
 use Rattle.block.specs.IsHeader.{IsHeader}
 use Rattle.block.proofs.read.header_in.Symbol as callee
 use Rattle.block.proofs.read.header_in.Met as callee-thm
-use Rattle.block.proofs.Results.{header, header-ty, header-typed}
+use Rattle.block.proofs.Walks.{header, header-ty, header-typed}
 use Rattle.block.proofs.Take.{take-spec}
 use Rattle.block.proofs.Block.header.Key as key
 use Rattle.block.proofs.Block.header.Statement as stated

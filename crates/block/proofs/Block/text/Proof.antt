@@ -6,7 +6,7 @@ use denote.Ref.{now}
 use Rattle.meaning.specs.Blocks.{blockText}
 use Rattle.block.proofs.read.text_in.Symbol as callee
 use Rattle.block.proofs.read.text_in.Met as callee-thm
-use Rattle.block.proofs.Results.{part, part-ty, part-typed}
+use Rattle.block.proofs.Walks.{part, part-ty, part-typed}
 use Rattle.block.proofs.Take.{take-spec}
 use Rattle.block.proofs.Block.text.Key as key
 use Rattle.block.proofs.Block.text.Statement as stated
