@@ -16,7 +16,7 @@ use prog.Routine.{Routine, Env}
 use prog.Wp.{Heap, Calls, Loops, Closed}
 use ghost.Atoms.{Atoms}
 use contract.Running.{Running, GhostRules, givenOf, tables}
-use types.Kit.{Given, ‵, mean, ⋆, _$_, _∵_, !, qed, move, use2, fjoin, frame, done}
+use types.Kit.{Given, mean, ⋆, _$_, _∵_, !, qed, move, use2, fjoin, frame, done}
 use types.Run.{look, init, stop, from, load, and-then, no-more, land}
 use sound.WpLaws.{FmC}
 use denote.Ref.{NamedLft}
@@ -30,15 +30,15 @@ use Rattle.block.proofs.Block as T
 use Rattle.block.proofs.Block.Laws as T′
 use Rattle.block.proofs.block_at.Symbol as block-at
 use Rattle.block.proofs.block_at.Met as block-at-thm
-use Rattle.block.proofs.Walks.{B, Typed, Fact, of-block, of-file, block-param, file-params, token, entry, Promise, calls-told, Walked, met-by, calling, begins, ends, Viewed}
+use Rattle.block.proofs.Walks.{B, Typed, Fact, of-block, of-file, Viewed, block-param, file-params, owned, token, entry, Promise, calls-told, Walked, met-by, calling, begins, ends}
 
 abbrev pub function : Ty → Name → Fn
 function τ G = calling τ (T′.mir erased) block-at.name (seq (call G (copy (place 3 []) ∷ []) (place 0 [])) return)
 
 module _ (slot : Slot 1) (φ : Fact slot) (τ : Ty) (typed : Typed slot τ) (G : Name) {M : Type 1} (𝓤 : URA M) (H : Heap 𝓤) where
   -- what the view and the token are to g
-  enters : (A : Atoms 𝓤) (W : Given 𝓤 H A) (κ : Lft) (q : Share) (b : Block) (u : Val) → ent 𝓤 (⋆ 𝓤 H A (‵ (B (κ, tt) .own b (u ∷ [])) ∷ token κ q ∷ [])) (mean 𝓤 H A (entry block-param κ q (b, tt) (u ∷ [], tt)))
-  enters A W κ q b u = qed W (‵ (B (κ, tt) .own b (u ∷ [])) ∷ token κ q ∷ []) ∵ move ! (1 ∷ []) $ frame ! $ nothing ! $ move ! (1 ∷ 0 ∷ []) $ fjoin ! $ done !
+  enters : (A : Atoms 𝓤) (W : Given 𝓤 H A) (κ : Lft) (q : Share) (b : Block) (u : Val) → ent 𝓤 (⋆ 𝓤 H A (owned (plain B) κ b u ∷ token κ q ∷ [])) (mean 𝓤 H A (entry block-param κ q (b, tt) (u ∷ [], tt)))
+  enters A W κ q b u = qed W (owned (plain B) κ b u ∷ token κ q ∷ []) ∵ move ! (1 ∷ []) $ frame ! $ nothing ! $ move ! (1 ∷ 0 ∷ []) $ fjoin ! $ done !
 
   walk : (A : Atoms 𝓤) (W : Given 𝓤 H A) (C : Calls 𝓤 H) (Λ : Loops 𝓤 H) → FmC 𝓤 H (W .laws) C → Triple 𝓤 (C block-at.name) (Promise file-params (plain B) Viewed 𝓤 H A) → Triple 𝓤 (C G) (Promise block-param slot (of-block slot φ) 𝓤 H A)
       → Walked file-params slot (of-file slot φ) 𝓤 H A C Λ (function τ G)

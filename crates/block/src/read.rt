@@ -7,6 +7,7 @@ ghost use Rattle.meaning.specs.Blocks.{timeAt, beforeEnd, blockText};
 ghost use Rattle.block.specs.IsHeader.{timeOf, IsHeader};
 use crate::Header;
 use crate::Time;
+use crate::parts::field;
 use crate::parts::rest;
 
 // The low byte comes first.
@@ -74,7 +75,6 @@ fn length_before_end(text: &[u8]) -> usize
 pub(crate) fn text_in(b: &[u8]) -> &[u8]
     ensures { λ r. ⌜ now r ≡ blockText (now (b .entry)) ⌝ }
 {
-    let text = rest(b, 16);
-    let n = length_before_end(text);
-    &text[..n]
+    let n = length_before_end(rest(b, 16));
+    field(b, 16, n)
 }
