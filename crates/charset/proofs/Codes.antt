@@ -3,14 +3,16 @@
 use Prim.Native.Nat.{ℕ, zero, suc, _+_, _*_, _-_, _≤_, _<_}
 use native.Mathlib.Omega.{arith}
 use mathlib.Core.Path.{_≡_, refl, sym, _∙_}
-use mathlib.Core.Bool.{Bool, true, false, cond, _&&_, and-eq-true-iff}
+use mathlib.Core.Bool.{Bool, true, false, cond, not, _&&_, and-eq-true-iff}
 use lib.Dec.{ltb, leb, eqb}
 use lib.ListN.{getD, drop, List·getD-eq-default}
-use borrow.Author.Tests.{lt-ltb, le-ltb, ne-eqb, eqb-true, leb-true}
-use Rattle.meaning.specs.declared.Token.the-variants.{Character}
+use borrow.Author.Tests.{lt-ltb, le-ltb, le-leb, ne-eqb, eqb-true, eqb-false, leb-true, leb-false, ltb-false, not-true}
+use Rattle.meaning.specs.declared.Token.the-variants.{Character, Control, Unlisted}
 use Rattle.meaning.specs.Tables.{latinTable, composedTable}
 use Rattle.meaning.specs.Characters.{latin, composed}
 use Rattle.meaning.specs.Codes.{isControl, characterOf, codeToken}
+use Rattle.meaning.proofs.Logic.{by-test, false-not-true, and-parts}
+use Rattle.charset.specs.Plain.{isPlain}
 use Rattle.charset.proofs.Table.{every, at}
 
 -- the Latin table, by ranges of codes
@@ -27,9 +29,26 @@ pub by-range : (c : ℕ) → c < 256 → latin c ≡ byRange c
 unfolding latin latinTable
 by-range c h = eqb-true (latin c) (byRange c) (at (λ k p. eqb p (byRange k)) latinTable ranged c h)
 
-control-low : (c : ℕ) → 32 ≤ c → isControl c ≡ false
+pub character-of : (p : ℕ) → (p ≡ 0 → ⊥) → characterOf p ≡ Character p
+unfolding characterOf
+character-of zero ne = absurd (ne refl)
+character-of (suc p) ne = refl
+
+-- what a plain code is
+pub plain-range : (c : ℕ) → isPlain c ≡ true → (32 ≤ c) × (c ≤ 126) × (c ≡ 36 → ⊥)
+unfolding isPlain
+plain-range c e =
+    let w = and-parts (leb 32 c && leb c 126) (not (eqb c 36)) e in
+    let v = and-parts (leb 32 c) (leb c 126) (w .0) in
+    (leb-true 32 c (v .0), leb-true c 126 (v .1), eqb-false c 36 (not-true (eqb c 36) (w .1)))
+
+pub in-range-plain : (c : ℕ) → 32 ≤ c → c ≤ 126 → (c ≡ 36 → ⊥) → isPlain c ≡ true
+unfolding isPlain
+in-range-plain c l h ne = rw (le-leb 32 c l, le-leb c 126 h, ne-eqb c 36 ne)
+
+control-below : (c : ℕ) → 32 ≤ c → isControl c ≡ false
 unfolding isControl
-control-low c h =
+control-below c h =
     rw (
       le-ltb c 8 (omega arith),
       ne-eqb c 10 (omega arith),
@@ -39,18 +58,38 @@ control-low c h =
       ne-eqb c 29 (omega arith),
     )
 
-pub character-of : (p : ℕ) → (p ≡ 0 → ⊥) → characterOf p ≡ Character p
-unfolding characterOf
-character-of zero ne = absurd (ne refl)
-character-of (suc p) ne = refl
-
--- a code that the Latin table lists is neither the row end nor a control
-pub listed : (c : ℕ) → c < 256 → (latin c ≡ 0 → ⊥) → codeToken c ≡ Character (latin c)
+-- a code that is no row end and no control
+as-character : (c : ℕ) → (c ≡ 138 → ⊥) → isControl c ≡ false → codeToken c ≡ characterOf (latin c)
 unfolding codeToken
-listed c h ne =
-    let low : c < 32 → ⊥ = λ l. ne (rw (by-range c h, lt-ltb c 32 l)) in
-    let end : c ≡ 138 → ⊥ = λ e. ne (rw (by-range c h, e)) in
-    rw (ne-eqb c 138 end, control-low c (omega arith), codeToken) (character-of (latin c) ne)
+as-character c ne n = rw (ne-eqb c 138 ne, n, codeToken)
+
+-- from A0h on the Latin table tells
+pub upper-token : (c : ℕ) → 160 ≤ c → codeToken c ≡ characterOf (latin c)
+upper-token c h = as-character c (λ e. omega arith) (control-below c (omega arith))
+
+module _ (c : ℕ) where
+  pub plain-token : isPlain c ≡ true → codeToken c ≡ Character c
+  plain-token e =
+      let r = plain-range c e in
+      let p : latin c ≡ c = rw (by-range c (omega (arith, r .1)), le-ltb c 32 (r .0), ne-eqb c 36 (r .2), lt-ltb c 127 (omega (arith, r .1))) in
+      as-character c (λ d. omega (arith, r .1)) (control-below c (r .0)) ∙ (rw p (character-of c (λ z. omega (arith, r .0))))
+
+  pub control-token : isControl c ≡ true → codeToken c ≡ Control c
+  unfolding codeToken isControl
+  control-token e =
+      let ne : c ≡ 138 → ⊥ = λ d. false-not-true (rw d at e) in
+      rw (ne-eqb c 138 ne, e, codeToken)
+
+  -- a low code that is none of these
+  pub no-token : c < 160 → isPlain c ≡ false → isControl c ≡ false → (c ≡ 36 → ⊥) → (c ≡ 138 → ⊥) → codeToken c ≡ Unlisted
+  unfolding characterOf
+  no-token h p n d r =
+      let outside : 32 ≤ c → c ≤ 126 → ⊥ = λ l u. false-not-true (sym p ∙ in-range-plain c l u d) in
+      let none : latin c ≡ 0 = by-range c (omega arith) ∙ by-test (ltb c 32) (λ t. rw t) (λ t. rw (t, ne-eqb c 36 d, le-ltb c 127 (above outside (ltb-false c 32 t)), lt-ltb c 160 h)) in
+      as-character c r n ∙ rw none
+    where
+      above : (32 ≤ c → c ≤ 126 → ⊥) → 32 ≤ c → 127 ≤ c
+      above o l = by-test (leb c 126) (λ t. absurd (o l (leb-true c 126 t))) (λ t. omega (arith, leb-false c 126 t))
 
 pub between : (a b c : ℕ) → (leb a c && leb c b) ≡ true → (a ≤ c) × (c ≤ b)
 between a b c e = let w = and-eq-true-iff (leb a c) (leb c b) .0 e in (leb-true a c (w .0), leb-true c b (w .1))

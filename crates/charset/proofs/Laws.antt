@@ -3,19 +3,24 @@
 use Prim.Native.Nat.{ℕ, _+_, _≤_, _<_}
 use native.Mathlib.Omega.{arith}
 use native.Mathlib.Numerals.{add-one}
-use mathlib.Core.Path.{_≡_, refl}
+use mathlib.Core.Path.{_≡_, refl, ap}
 use mathlib.Core.Bool.{Bool, true, false, _&&_, and-eq-true-iff}
-use mathlib.Core.List.{List, [], _∷_}
+use mathlib.Core.List.{List, [], _∷_, map, _++_}
 use mathlib.Core.Logic.{_⊎_, inl, inr, ⊎-map}
 use lib.Dec.{ltb}
 use lib.ListN.{length, getD, drop, drop-of-length-le}
-use lib.Seq.{drop-cons}
-use borrow.Author.Tests.{lt-ltb, ltb-true, ltb-false}
+use lib.Seq.{drop-cons, drop-drop}
+use borrow.Author.Tests.{lt-ltb, lt-leb, ltb-true, ltb-false}
+use Rattle.meaning.specs.declared.Token.the-variants.{Character}
+use Rattle.meaning.specs.Characters.{accent}
 use Rattle.meaning.specs.Codes.{isAccent, codeToken, pairToken, tokens}
 use Rattle.meaning.proofs.Logic.{by-test}
 use Rattle.meaning.proofs.Tokens.{tokens-pair as first-pair, tokens-code}
 use Rattle.charset.specs.declared.Reading.{Reading}
 use Rattle.charset.specs.Reading.{isPairAt, readingAt}
+use Rattle.charset.specs.Plain.{isPlain, plainRun, plainEnd}
+use Rattle.charset.proofs.Codes.{plain-range, plain-token}
+use Rattle.charset.proofs.Runs.{run-goes-on, run-ends}
 
 -- a code that is no accent, or has none after it
 first-single : (c : ℕ) (cs : List ℕ) → isAccent c ≡ false → tokens (c ∷ cs) ≡ codeToken c ∷ tokens cs
@@ -87,3 +92,29 @@ module _ (s : List ℕ) (i : ℕ) (h : i < length s) where
 -- The law for loops over a text, of the result r of a call of `token_at`.
 pub read-on : {s : List ℕ} {i : ℕ} {r : Reading} → r ≡ readingAt s i → i < length s → ReadOn s i r
 read-on {s} {i} e h = rw e (read-at s i h)
+
+-- a low code is no accent
+low-single : (c : ℕ) → c < 160 → isAccent c ≡ false
+unfolding isAccent accent
+low-single c h = rw (accent, lt-leb 192 c (omega arith))
+
+pub low-reading : (s : List ℕ) (i : ℕ) → i < length s → getD s i 0 < 160 → readingAt s i ≡ record { token = codeToken (getD s i 0); next = i + 1 }
+unfolding readingAt isPairAt
+low-reading s i h l = rw (lt-ltb i (length s) h, low-single (getD s i 0) l)
+
+-- the tokens of a run are the characters of its codes
+tokens-run : (s : List ℕ) → tokens s ≡ map Character (plainRun s) ++ tokens (drop (length (plainRun s)) s)
+unfolding plainRun
+tokens-run [] = refl
+tokens-run (c ∷ cs) =
+    by-test (isPlain c)
+    (λ p.
+    let r = plain-range c p in
+    rw (run-goes-on c cs p, first-single c cs (low-single c (omega (arith, r .1))), plain-token c p)
+    (ap (λ ts. Character c ∷ ts) (tokens-run cs)))
+    (λ p. rw (run-ends c cs p))
+
+-- The law for loops that pass over runs: the tokens from i on are the run's characters, and those from its end on.
+pub run-at : (s : List ℕ) (i : ℕ) → tokens (drop i s) ≡ map Character (plainRun (drop i s)) ++ tokens (drop (plainEnd s i) s)
+unfolding plainEnd
+run-at s i = rw drop-drop at (tokens-run (drop i s))

@@ -1,5 +1,6 @@
 // The code points of single codes and of accents with letters; 0 for none.
 ghost use mathlib.Core.Path.{_≡_};
+ghost use Prim.Native.Nat.{_≤_};
 ghost use Rattle.meaning.specs.Characters.{latin, accent, letter, composed};
 use crate::composed_table;
 use crate::latin_table;
@@ -7,22 +8,11 @@ use crate::latin_table;
 // Which of the thirteen accents each code from C0h to CFh is, from 1; 0 for none.
 const ACCENTS: [u8; 16] = [0, 1, 2, 3, 4, 5, 6, 7, 8, 0, 9, 10, 0, 11, 12, 13];
 
-// Below 7Fh only 24h, the currency sign, differs from ASCII; no table is read for those.
-pub fn latin(c: u8) -> u16
+// The code point of a code from A0h on; the lower codes need no table.
+pub(crate) fn upper(c: u8) -> u16
+    requires { ⌜ 160 ≤ c ⌝ }
     ensures { λ r. ⌜ r ≡ latin c ⌝ }
 {
-    if c < 32 {
-        return 0;
-    }
-    if c == 36 {
-        return 164;
-    }
-    if c < 127 {
-        return c as u16;
-    }
-    if c < 160 {
-        return 0;
-    }
     latin_table::UPPER[(c - 160) as usize]
 }
 

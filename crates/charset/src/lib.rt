@@ -1,6 +1,8 @@
 // What a text's codes stand for: a code by itself, an accent with the code after it, and what stands at a position.
 ghost use mathlib.Core.Path.{_≡_};
 ghost use Rattle.meaning.specs.Codes.{isAccent, isControl, characterOf, codeToken, pairToken};
+ghost use Prim.Native.Nat.{_<_};
+ghost use Rattle.charset.specs.Plain.{isPlain, plainEnd};
 ghost use Rattle.charset.specs.Reading.{readingAt};
 use meaning::Token;
 
@@ -27,6 +29,13 @@ fn is_control(c: u8) -> bool
     (c < 8) | (c == 10) | (c == 11) | (c == 13) | (c == 28) | (c == 29)
 }
 
+// A code that stands for the character of the same number.
+fn is_plain(c: u8) -> bool
+    ensures { λ r. ⌜ r ≡ isPlain c ⌝ }
+{
+    (32 <= c) & (c <= 126) & (c != 36)
+}
+
 fn character_of(point: u16) -> Token
     ensures { λ r. ⌜ r ≡ characterOf point ⌝ }
 {
@@ -37,22 +46,31 @@ fn character_of(point: u16) -> Token
     }
 }
 
-// Characters come first, since nearly every code of a text is one by itself.
+// A code below A0h: no table is read for it.
+fn low_token(c: u8) -> Token
+    requires { ⌜ c < 160 ⌝ }
+    ensures { λ r. ⌜ r ≡ codeToken c ⌝ }
+{
+    if is_plain(c) {
+        return Token::Character(c as u16);
+    }
+    if is_control(c) {
+        return Token::Control(c);
+    }
+    match c {
+        36 => Token::Character(164),
+        138 => Token::RowEnd,
+        _ => Token::Unlisted,
+    }
+}
+
 pub fn code_token(c: u8) -> Token
     ensures { λ r. ⌜ r ≡ codeToken c ⌝ }
 {
-    let point = characters::latin(c);
-    if point != 0 {
-        return Token::Character(point);
+    if c < 160 {
+        return low_token(c);
     }
-    if c == 138 {
-        return Token::RowEnd;
-    }
-    if is_control(c) {
-        Token::Control(c)
-    } else {
-        Token::Unlisted
-    }
+    character_of(characters::upper(c))
 }
 
 pub fn pair_token(a: u8, c: u8) -> Token
@@ -62,7 +80,7 @@ pub fn pair_token(a: u8, c: u8) -> Token
 }
 
 // An accent is read with the code after it, where there is one.
-pub fn token_at(text: &[u8], i: usize) -> Reading
+pub fn reading_at(text: &[u8], i: usize) -> Reading
     ensures { λ r. ⌜ r ≡ readingAt (now (text .entry)) i ⌝ }
 {
     if text.len() <= i {
@@ -82,4 +100,35 @@ pub fn token_at(text: &[u8], i: usize) -> Reading
         token: code_token(c),
         next: after,
     }
+}
+
+// The same for loops over a text: nearly every code is a low one, and what is done for it here is little enough to be
+// compiled into the loop.
+pub fn token_at(text: &[u8], i: usize) -> Reading
+    ensures { λ r. ⌜ r ≡ readingAt (now (text .entry)) i ⌝ }
+{
+    if i < text.len() {
+        let c = text[i];
+        if c < 160 {
+            return Reading {
+                token: low_token(c),
+                next: i + 1,
+            };
+        }
+    }
+    reading_at(text, i)
+}
+
+// Where the run of plain codes from a position on ends.
+pub fn plain_end(text: &[u8], start: usize) -> usize
+    ensures { λ r. ⌜ r ≡ plainEnd (now (text .entry)) start ⌝ }
+{
+    let mut i = start;
+    while i < text.len() {
+        if !is_plain(text[i]) {
+            return i;
+        }
+        i += 1;
+    }
+    i
 }

@@ -1,69 +1,38 @@
--- `token_at` gives the reading at a position: its tests are those of the definition.
+-- `token_at` gives the reading at a position: a low code is no accent, and stands for itself.
 -- Assumes nothing.
-use mathlib.Core.Path.{sym}
-use mathlib.Core.Bool.{and-eq-true-iff}
 use borrow.Author.Needs.{needs}
-use borrow.Author.Tests.{lt-ltb, le-ltb, ltb-true}
-use Rattle.charset.specs.Reading.{isPairAt, readingAt}
+use mathlib.Core.Path.{sym}
+use Rattle.charset.proofs.Laws.{low-reading}
 use Rattle.charset.proofs.token_at.Statement.{statement}
 use Rattle.charset.proofs.token_at.Tie as tie
-
-returns : tie.Need-returns
-unfolding readingAt
-returns c = rw (le-ltb _ _ (c .if1 .taken))
 
 shared-slice-read-c : tie.Need-shared-slice-read-c
 shared-slice-read-c c = search needs
 
-add-after : tie.Need-add-after
-add-after c = search needs
+low-token-requires : tie.Need-low-token-requires
+low-token-requires c κs = search needs
 
-is-accent-requires : tie.Need-is-accent-requires
-is-accent-requires c κs = search needs
+add-t10 : tie.Need-add-t10
+add-t10 c = search needs
 
-shared-slice-read-pair-token : tie.Need-shared-slice-read-pair-token
-shared-slice-read-pair-token c = ltb-true _ _ (and-eq-true-iff (c .before .before .is-accent .result) _ .0 (c .before .if2 .taken) .1)
+returns : tie.Need-returns
+returns c =
+    let a = c .before .before .before .before .before .args in
+    rw (c .low-token .ensures) (sym (low-reading (a .text .now) (a .i) (c .before .before .before .if1 .taken) (c .before .if2 .taken)))
 
-pair-token-requires : tie.Need-pair-token-requires
-pair-token-requires c κs = search needs
-
-add-next : tie.Need-add-next
-add-next c = search needs
+reading-at-requires : tie.Need-reading-at-requires
+reading-at-requires c κs = search needs
 
 returns-2 : tie.Need-returns-2
-unfolding readingAt isPairAt
-returns-2 c =
-    rw (
-      lt-ltb _ _ (c .before .before .before .before .before .if1 .left),
-      sym (c .before .before .before .is-accent .ensures),
-      c .before .before .if2 .taken,
-      c .pair-token .ensures,
-    )
-
-code-token-requires : tie.Need-code-token-requires
-code-token-requires c κs = search needs
-
-returns-3 : tie.Need-returns-3
-unfolding readingAt isPairAt
-returns-3 c =
-    rw (
-      lt-ltb _ _ (c .before .before .before .before .if1 .left),
-      sym (c .before .before .is-accent .ensures),
-      c .before .if2 .left,
-      c .code-token .ensures,
-    )
+returns-2 c = search needs
 
 pub token-at-spec : {M : Type 1} → statement M
 token-at-spec =
     tie.close
     (tie.spec
-    returns
     shared-slice-read-c
-    add-after
-    is-accent-requires
-    shared-slice-read-pair-token
-    pair-token-requires
-    add-next
-    returns-2
-    code-token-requires
-    returns-3)
+    low-token-requires
+    add-t10
+    returns
+    reading-at-requires
+    returns-2)
