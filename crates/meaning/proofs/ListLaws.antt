@@ -4,11 +4,21 @@ use Prim.Native.Nat.{ℕ, zero, suc, _<_}
 use native.Mathlib.Omega.{arith}
 use native.Mathlib.Nat.{le-of-suc-le-suc, not-suc-le-zero}
 use mathlib.Core.Path.{_≡_, refl, sym, ap, _∙_}
-use mathlib.Core.Bool.{Bool, true, false}
+use mathlib.Core.Bool.{Bool, true, false, _&&_, _||_}
 use mathlib.Core.List.{List, [], _∷_, _++_, map, append-assoc}
 use lib.ListN.{length, getD, replicate}
-use Rattle.meaning.specs.Lists.{all, ontoFirst, joinMap, firstBroken}
-use Rattle.meaning.proofs.Logic.{false-not-true}
+use Rattle.meaning.specs.Lists.{all, any, ontoFirst, joinMap, firstBroken}
+use Rattle.meaning.proofs.Logic.{by-test, false-not-true}
+
+-- tests over a list, one element at a time
+module _ {A : Type 0} (p : A → Bool) (x : A) (xs : List A) where
+  pub all-cons : all p (x ∷ xs) ≡ (p x && all p xs)
+  unfolding all
+  all-cons = by-test (p x) (λ e. rw (e, all)) (λ e. rw (e, all))
+
+  pub any-cons : any p (x ∷ xs) ≡ (p x || any p xs)
+  unfolding any
+  any-cons = by-test (p x) (λ e. rw (e, any)) (λ e. rw (e, any))
 
 pub data All {A : Type 0} (P : A → Type 0) : List A → Type 0 where
   nil : All P []

@@ -15,8 +15,8 @@ use Rattle.meaning.specs.declared.Token.the-variants.{Character, Control, RowEn
 use Rattle.meaning.specs.Lists.{all, any, later, ontoFirst, firstBroken}
 use Rattle.meaning.specs.Codes.{tokens, isListed, isCharacter, isRowEnd, isDoubleHeight}
 use Rattle.meaning.specs.Rows.{splitRows, isDouble, breaksPaired, pairedFrom, rows, heightFirst, evenFrom, heightsRight, linesOf, rowCount, isShort, rowsFit, textRule}
-use Rattle.meaning.proofs.Logic.{by-test}
-use Rattle.meaning.proofs.ListLaws.{test-nil}
+use Rattle.meaning.proofs.Logic.{by-test, or-join}
+use Rattle.meaning.proofs.ListLaws.{all-cons, any-cons, test-nil}
 use Rattle.rows.specs.declared.RowFacts.{RowFacts}
 use Rattle.rows.specs.declared.RowScan.{RowScan}
 use Rattle.rows.specs.declared.TextFacts.{TextFacts}
@@ -25,16 +25,6 @@ use Rattle.rows.specs.FirstRow.{firstRow, rowsOf, rowsAfter}
 use Rattle.rows.specs.Scanning.{moreUpTo, noRowFacts, withToken, rowFactsFrom, noTextFacts, withRow, textFactsFrom, ruleOf}
 use Rattle.rows.specs.Scanned.{Scanned, TextScanned}
 use Rattle.rows.proofs.Laws.{split-end, split-more, rows-first, double-first, rows-are}
-
--- tests over a list, one element at a time
-module _ {A : Type 0} (p : A → Bool) (x : A) (xs : List A) where
-  all-cons : all p (x ∷ xs) ≡ (p x && all p xs)
-  unfolding all
-  all-cons = by-test (p x) (λ e. rw (e, all)) (λ e. rw (e, all))
-
-  any-cons : any p (x ∷ xs) ≡ (p x || any p xs)
-  unfolding any
-  any-cons = by-test (p x) (λ e. rw (e, any)) (λ e. rw (e, any))
 
 and-true : (a : Bool) → a ≡ (a && true)
 and-true true = refl
@@ -60,10 +50,6 @@ or-move false false c = refl
 and-join : (a b c : Bool) → ((a && b) && c) ≡ (a && (b && c))
 and-join true b c = refl
 and-join false b c = refl
-
-or-join : (a b c : Bool) → ((a || b) || c) ≡ (a || (b || c))
-or-join true b c = refl
-or-join false b c = refl
 
 more-min : (limit n k : ℕ) → n ≤ limit → min (moreUpTo limit n + k) limit ≡ min (n + suc k) limit
 unfolding moreUpTo

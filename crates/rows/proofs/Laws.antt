@@ -4,7 +4,7 @@ use Prim.Native.Nat.{ℕ, _*_, _≤_}
 use native.Mathlib.Omega.{arith}
 use mathlib.Core.Path.{_≡_, refl, sym, ap, _∙_}
 use mathlib.Core.Bool.{Bool, true, false, cond, not, _&&_}
-use mathlib.Core.List.{List, [], _∷_}
+use mathlib.Core.List.{List, [], _∷_, map, _++_}
 use lib.Dec.{eqb}
 use lib.ListN.{getD}
 use Rattle.meaning.specs.declared.Rows.{Rows}
@@ -64,6 +64,24 @@ after-none = refl
 pub ended-none : isEnded [] ≡ false
 unfolding isEnded any
 ended-none = refl
+
+-- a run of characters is within its row
+module _ (ts : List Token) where
+  pub first-run : (cs : List ℕ) → firstRow (map Character cs ++ ts) ≡ map Character cs ++ firstRow ts
+  unfolding isRowEnd
+  first-run [] = refl
+  first-run (c ∷ cs) =
+      first-more (Character c) (map Character cs ++ ts) refl ∙ ap (λ (us : List Token). Character c ∷ us) (first-run cs)
+
+  pub after-run : (cs : List ℕ) → afterRow (map Character cs ++ ts) ≡ afterRow ts
+  unfolding isRowEnd
+  after-run [] = refl
+  after-run (c ∷ cs) = after-more (Character c) (map Character cs ++ ts) refl ∙ after-run cs
+
+  pub ended-run : (cs : List ℕ) → isEnded (map Character cs ++ ts) ≡ isEnded ts
+  unfolding isRowEnd
+  ended-run [] = refl
+  ended-run (c ∷ cs) = ended-more (Character c) (map Character cs ++ ts) refl ∙ ended-run cs
 
 -- what follows the first row, by the test whether there is a row end
 module _ (paired : Bool) (ts : List Token) where

@@ -1,25 +1,30 @@
 -- The loop over a row, seen from what is left of it, and the row end after it.
 -- Assumes nothing.
-use Prim.Native.Nat.{ℕ, _≤_}
+use Prim.Native.Nat.{ℕ, _-_, _≤_}
 use native.Mathlib.Omega.{arith}
 use mathlib.Core.Path.{_≡_, refl, sym, ap, _∙_}
-use mathlib.Core.Bool.{true, false}
-use mathlib.Core.List.{List, [], _∷_}
+use mathlib.Core.Bool.{true, false, _||_}
+use mathlib.Core.List.{List, [], _∷_, map, _++_}
 use lib.Dec.{leb}
 use lib.ListN.{length, drop}
 use borrow.Author.Tests.{leb-true, leb-false}
 use Rattle.meaning.specs.declared.Token.{Token}
-use Rattle.meaning.specs.Codes.{isRowEnd, tokens}
+use Rattle.meaning.specs.declared.Token.the-variants.{Character}
+use Rattle.meaning.specs.Codes.{isRowEnd, isListed, isCharacter, isDoubleHeight, tokens}
+use Rattle.meaning.specs.Lists.{any}
+use Rattle.meaning.specs.Rows.{isDouble}
+use Rattle.meaning.proofs.ListLaws.{any-cons}
 use Rattle.meaning.proofs.Logic.{by-test, false-not-true}
 use Rattle.charset.specs.declared.Reading.{Reading}
-use Rattle.charset.proofs.Laws.{ReadOn, tokens-end}
+use Rattle.charset.specs.Plain.{plainRun, plainEnd}
+use Rattle.charset.proofs.Laws.{ReadOn, tokens-end, run-at}
 use Rattle.rows.specs.declared.RowFacts.{RowFacts}
 use Rattle.rows.specs.declared.RowScan.{RowScan}
 use Rattle.rows.specs.declared.EndRead.{EndRead}
 use Rattle.rows.specs.FirstRow.{firstRow, afterRow, isEnded, endFirst, withoutEnd}
-use Rattle.rows.specs.Scanning.{noRowFacts, withToken, rowFactsFrom}
+use Rattle.rows.specs.Scanning.{noRowFacts, withToken, withCharacters, rowFactsFrom}
 use Rattle.rows.specs.Scanned.{Scanned, EndFound}
-use Rattle.rows.proofs.Laws.{first-none, after-none, ended-none, first-end, after-end, ended-end, first-more, after-more, ended-more}
+use Rattle.rows.proofs.Laws.{double-first, first-none, after-none, ended-none, first-end, after-end, ended-end, first-more, after-more, ended-more, first-run, after-run, ended-run}
 
 -- the rest of the row from position i makes of the facts so far those of the row from `start`
 pub record RowLeft (s : List ℕ) (start : ℕ) (f : RowFacts) (i : ℕ) : Type 0 where
@@ -27,6 +32,12 @@ pub record RowLeft (s : List ℕ) (start : ℕ) (f : RowFacts) (i : ℕ) : Type 
   pub ended : isEnded (tokens (drop i s)) ≡ isEnded (tokens (drop start s))
   pub rest : afterRow (tokens (drop i s)) ≡ afterRow (tokens (drop start s))
   pub from : start ≤ i
+
+-- the facts of a run of characters and what follows it
+run-facts : (cs : List ℕ) (f : RowFacts) (ts : List Token) → rowFactsFrom f (map Character cs ++ ts) ≡ rowFactsFrom (withCharacters f (length cs)) ts
+unfolding rowFactsFrom withCharacters withToken isListed isCharacter isDoubleHeight
+run-facts [] f ts = refl
+run-facts (c ∷ cs) f ts = run-facts cs (withToken f (Character 0)) ts
 
 pub left-start : (s : List ℕ) (start : ℕ) {f : RowFacts} → f ≡ noRowFacts → RowLeft s start f start
 left-start s start e = record { facts = rw e; ended = refl; rest = refl; from = omega arith }
@@ -43,6 +54,21 @@ module _ {s : List ℕ} {start i : ℕ} {f : RowFacts} (l : RowLeft s start f i)
         rest = sym (ap afterRow (o .first) ∙ after-more (r .token) ts e) ∙ l .rest;
         from = omega (arith, o .on, l .from);
       }
+
+  -- a run of plain codes, up to e
+  pub left-run : {e : ℕ} {g : RowFacts} → e ≡ plainEnd s i → g ≡ withCharacters f (e - i) → RowLeft s start g e
+  unfolding plainEnd
+  left-run {e} h g =
+      let cs = plainRun (drop i s) in
+      let ts = tokens (drop (plainEnd s i) s) in
+      let n : e - i ≡ length cs = omega (arith, h) in
+      rw h
+      (record {
+        facts = rw (g, n) (sym (ap (rowFactsFrom f) (ap firstRow (run-at s i) ∙ first-run ts cs) ∙ run-facts cs f (firstRow ts)) ∙ l .facts);
+        ended = sym (ap isEnded (run-at s i) ∙ ended-run ts cs) ∙ l .ended;
+        rest = sym (ap afterRow (run-at s i) ∙ after-run ts cs) ∙ l .rest;
+        from = omega (arith, l .from);
+      })
 
   -- the row end
   pub left-end : {r : Reading} → ReadOn s i r → isRowEnd (r .token) ≡ true → Scanned s start (record { facts = f; ended = true; next = r .next })
@@ -67,6 +93,46 @@ module _ {s : List ℕ} {start i : ℕ} {f : RowFacts} (l : RowLeft s start f i)
         rest = t ∙ sym (ap afterRow t ∙ after-none) ∙ l .rest;
         on = λ z. absurd (false-not-true z);
       }
+
+-- the rest of the first row from position i tells whether the text is double height
+pub record HeightLeft (s : List ℕ) (i : ℕ) : Type 0 where
+  pub height : any isDoubleHeight (firstRow (tokens (drop i s))) ≡ isDouble (tokens s)
+
+pub height-start : (s : List ℕ) → HeightLeft s 0
+height-start s = record { height = sym (double-first (tokens s)) }
+
+run-height : (cs : List ℕ) (ts : List Token) → any isDoubleHeight (map Character cs ++ ts) ≡ any isDoubleHeight ts
+unfolding any isDoubleHeight
+run-height [] ts = refl
+run-height (c ∷ cs) ts = run-height cs ts
+
+module _ {s : List ℕ} {i : ℕ} (l : HeightLeft s i) where
+  module _ {r : Reading} (o : ReadOn s i r) where
+    first-here : isRowEnd (r .token) ≡ false → firstRow (tokens (drop i s)) ≡ r .token ∷ firstRow (tokens (drop (r .next) s))
+    first-here e = ap firstRow (o .first) ∙ first-more (r .token) (tokens (drop (r .next) s)) e
+
+    pub height-row-end : isRowEnd (r .token) ≡ true → false ≡ isDouble (tokens s)
+    unfolding any
+    height-row-end e = sym (ap (any isDoubleHeight) (ap firstRow (o .first) ∙ first-end (r .token) (tokens (drop (r .next) s)) e)) ∙ l .height
+
+    module _ (e : isRowEnd (r .token) ≡ false) where
+      here : (isDoubleHeight (r .token) || any isDoubleHeight (firstRow (tokens (drop (r .next) s)))) ≡ isDouble (tokens s)
+      here = sym (ap (any isDoubleHeight) (first-here e) ∙ any-cons isDoubleHeight (r .token) (firstRow (tokens (drop (r .next) s)))) ∙ l .height
+
+      pub height-here : isDoubleHeight (r .token) ≡ true → true ≡ isDouble (tokens s)
+      height-here d = rw d at here
+
+      -- another token, and the run after it
+      pub height-more : isDoubleHeight (r .token) ≡ false → HeightLeft s (plainEnd s (r .next))
+      height-more d =
+          let cs = plainRun (drop (r .next) s) in
+          let ts = tokens (drop (plainEnd s (r .next)) s) in
+          let run = ap (any isDoubleHeight) (ap firstRow (run-at s (r .next)) ∙ first-run ts cs) ∙ run-height cs (firstRow ts) in
+          record { height = sym run ∙ rw d at here }
+
+  pub height-over : length s ≤ i → false ≡ isDouble (tokens s)
+  unfolding any
+  height-over h = sym (ap (any isDoubleHeight) (ap firstRow (tokens-end s i h) ∙ first-none)) ∙ l .height
 
 -- a row end at a position, another token, or nothing
 module _ {s : List ℕ} {i : ℕ} where

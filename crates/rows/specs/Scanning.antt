@@ -1,10 +1,11 @@
 -- What the rules 13 to 15 need to know of a row and of all rows, gathered from the left.
 -- Assumes nothing.
-use Prim.Native.Nat.{ℕ, suc, _+_}
+use Prim.Native.Nat.{ℕ, zero, suc, _+_}
 use mathlib.Core.Bool.{Bool, true, false, cond, not, _&&_, _||_}
 use mathlib.Core.List.{List, [], _∷_}
 use lib.Dec.{ltb, leb}
 use Rattle.meaning.specs.declared.Token.{Token}
+use Rattle.meaning.specs.declared.Token.the-variants.{Character}
 use Rattle.meaning.specs.Lists.{firstBroken}
 use Rattle.meaning.specs.Codes.{isListed, isCharacter, isDoubleHeight}
 use Rattle.meaning.specs.Rows.{linesOf}
@@ -14,6 +15,11 @@ use Rattle.rows.specs.declared.TextFacts.{TextFacts}
 -- one more, up to a limit: beyond it no rule can tell counts apart
 unfoldable pub moreUpTo : ℕ → ℕ → ℕ
 moreUpTo limit n = cond (ltb n limit) (n + 1) n
+
+-- as many more, up to a limit
+unfoldable pub manyUpTo : ℕ → ℕ → ℕ → ℕ
+manyUpTo limit n zero = n
+manyUpTo limit n (suc k) = manyUpTo limit (moreUpTo limit n) k
 
 unfoldable pub noRowFacts : RowFacts
 noRowFacts = record { cells = 0; listed = true; height = false; character = false; ordered = true }
@@ -28,6 +34,11 @@ withToken f t =
       character = isCharacter t || f .character;
       ordered = not (isDoubleHeight t && f .character) && f .ordered;
     }
+
+-- n characters more; which ones makes no difference
+unfoldable pub withCharacters : RowFacts → ℕ → RowFacts
+withCharacters f zero = f
+withCharacters f (suc n) = withCharacters (withToken f (Character 0)) n
 
 unfoldable pub rowFactsFrom : RowFacts → List Token → RowFacts
 rowFactsFrom f [] = f

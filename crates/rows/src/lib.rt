@@ -4,9 +4,9 @@ ghost use mathlib.Core.Path.{_≡_};
 ghost use mathlib.Core.Bool.{cond};
 ghost use mathlib.Core.List.{[], _∷_};
 ghost use Rattle.meaning.specs.Lists.{firstBroken};
-ghost use Rattle.meaning.specs.Codes.{tokens, isRowEnd};
+ghost use Rattle.meaning.specs.Codes.{tokens, isRowEnd, isDoubleHeight};
 ghost use Rattle.meaning.specs.Rows.{isDouble, textRule};
-ghost use Rattle.rows.specs.Scanning.{moreUpTo, noRowFacts, withToken, noTextFacts, withRow, ruleOf};
+ghost use Rattle.rows.specs.Scanning.{moreUpTo, manyUpTo, noRowFacts, withToken, withCharacters, noTextFacts, withRow, ruleOf};
 ghost use Rattle.rows.specs.Scanned.{Scanned, EndFound, RowAfter, TextScanned};
 use meaning::Rows;
 use meaning::Token;
@@ -43,6 +43,19 @@ fn more_up_to(limit: u32, n: u32) -> u32
     if n < limit { n + 1 } else { n }
 }
 
+// n and more, up to a limit.
+fn many_up_to(limit: u32, n: u32, more: usize) -> u32
+    ensures { λ r. ⌜ r ≡ manyUpTo limit n more ⌝ }
+{
+    if limit <= n {
+        return n;
+    }
+    if (limit - n) as usize <= more {
+        return limit;
+    }
+    n + more as u32
+}
+
 pub fn is_row_end(t: Token) -> bool
     ensures { λ r. ⌜ r ≡ isRowEnd t ⌝ }
 {
@@ -50,6 +63,17 @@ pub fn is_row_end(t: Token) -> bool
         Token::Character(_) => false,
         Token::Control(_) => false,
         Token::RowEnd => true,
+        Token::Unlisted => false,
+    }
+}
+
+fn is_double_height(t: Token) -> bool
+    ensures { λ r. ⌜ r ≡ isDoubleHeight t ⌝ }
+{
+    match t {
+        Token::Character(_) => false,
+        Token::Control(c) => c == 13,
+        Token::RowEnd => false,
         Token::Unlisted => false,
     }
 }
@@ -91,6 +115,16 @@ impl RowFacts {
             }
         }
     }
+
+    // A run of n characters.
+    fn with_characters(self, n: usize) -> RowFacts
+        ensures { λ r. ⌜ r ≡ withCharacters self n ⌝ }
+    {
+        let mut f = self;
+        f.cells = many_up_to(65, self.cells, n);
+        f.character = self.character | (0 < n);
+        f
+    }
 }
 
 impl TextFacts {
@@ -119,6 +153,7 @@ impl TextFacts {
     }
 }
 
+// With each token the run of plain codes after it is taken at once.
 fn scan_row(text: &[u8], start: usize) -> RowScan
     ensures { λ r. ⌜ Scanned (now (text .entry)) start r ⌝ }
 {
@@ -127,15 +162,16 @@ fn scan_row(text: &[u8], start: usize) -> RowScan
     while i < text.len() {
         let read = charset::token_at(text, i);
         let t = read.token;
-        i = read.next;
+        let after = read.next;
         if is_row_end(t) {
             return RowScan {
                 facts,
                 ended: true,
-                next: i,
+                next: after,
             };
         }
-        facts = facts.with_token(t);
+        i = charset::plain_end(text, after);
+        facts = facts.with_token(t).with_characters(i - after);
     }
     RowScan {
         facts,
@@ -154,7 +190,7 @@ fn end_at(text: &[u8], i: usize) -> EndRead
     ensures { λ r. ⌜ EndFound (now (text .entry)) i r ⌝ }
 {
     if i < text.len() {
-        let read = charset::token_at(text, i);
+        let read = charset::reading_at(text, i);
         let t = read.token;
         if is_row_end(t) {
             return EndRead {
@@ -184,13 +220,23 @@ pub fn row_after(text: &[u8], paired: bool, next: usize) -> usize
     row_start(paired, second.after, next)
 }
 
-// Whether a set's text is double height.
+// Whether a set's text is double height: whether 0Dh stands in its first row, mostly at the start.
 pub fn is_double(text: &[u8]) -> bool
     ensures { λ r. ⌜ r ≡ isDouble (tokens (now (text .entry))) ⌝ }
 {
-    let first = scan_row(text, 0);
-    let f = first.facts;
-    f.height
+    let mut i = 0;
+    while i < text.len() {
+        let read = charset::token_at(text, i);
+        let t = read.token;
+        if is_row_end(t) {
+            return false;
+        }
+        if is_double_height(t) {
+            return true;
+        }
+        i = charset::plain_end(text, read.next);
+    }
+    false
 }
 
 // The scan of a whole text: the facts of all its rows, and whether every run of row ends is even.

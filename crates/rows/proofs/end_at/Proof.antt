@@ -7,21 +7,21 @@ use Rattle.rows.proofs.RowLoop.{end-found, end-other, end-over}
 use Rattle.rows.proofs.end_at.Statement.{statement}
 use Rattle.rows.proofs.end_at.Tie as tie
 
-token-at-requires : tie.Need-token-at-requires
-token-at-requires c κs = search needs
+reading-at-requires : tie.Need-reading-at-requires
+reading-at-requires c κs = search needs
 
 is-row-end-requires : tie.Need-is-row-end-requires
 is-row-end-requires c κs = search needs
 
 returns : tie.Need-returns
-returns c = end-found (read-on (c .before .before .token-at .ensures) (c .before .before .before .if1 .taken)) (sym (c .before .is-row-end .ensures) ∙ c .if2 .taken)
+returns c = end-found (read-on (c .before .before .reading-at .ensures) (c .before .before .before .if1 .taken)) (sym (c .before .is-row-end .ensures) ∙ c .if2 .taken)
 
 returns-2 : tie.Need-returns-2
-returns-2 c = end-other (read-on (c .before .before .token-at .ensures) (c .before .before .before .if1 .taken)) (sym (c .before .is-row-end .ensures) ∙ c .if2 .left)
+returns-2 c = end-other (read-on (c .before .before .reading-at .ensures) (c .before .before .before .if1 .taken)) (sym (c .before .is-row-end .ensures) ∙ c .if2 .left)
 
 returns-3 : tie.Need-returns-3
 returns-3 c = end-over (c .if1 .left)
 
 pub end-at-spec : {M : Type 1} → statement M
 end-at-spec =
-    tie.close (tie.spec token-at-requires is-row-end-requires returns returns-2 returns-3)
+    tie.close (tie.spec reading-at-requires is-row-end-requires returns returns-2 returns-3)
