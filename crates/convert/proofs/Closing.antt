@@ -23,8 +23,11 @@ use Rattle.block.specs.declared.Header.{Header}
 use Rattle.block.specs.IsHeader.{IsHeader}
 use Rattle.document.specs.Parts.{paragraphFor, ParagraphLaid}
 use Rattle.convert.specs.declared.blocks.Walk.{Walk}
-use Rattle.convert.specs.Following.{setOf, currentOf, AllLaid, Keeps, KeepsIn, Follows, Holds, Answers}
+use Rattle.convert.specs.Following.{setOf, currentOf, AllLaid, Keeps, KeepsIn, Follows, Holds, Accepts, Answers}
 use Rattle.convert.proofs.Laying.{laid-more, paragraph-whole}
+
+not-refused : {m k : ℕ} → Accepts (refused m k) → ⊥
+not-refused a = let z : _≡_ {A = ℕ} 0 1 = ap (λ (o : Outcome). elim o [ refused x y ↦ 0 | accepted q ↦ 1 ]) (a .is) in omega arith
 
 -- a state without an open set
 pub shut : (file text : List ℕ) (w : Walk) → w .open ≡ false → none ≡ currentOf file w text
@@ -96,6 +99,14 @@ module _ {file buf : List ℕ} {t : Tally} {text out : List ℕ} {n : ℕ} {w : 
 
     rule-is : {rule : ℕ} → rule ≡ textRule mode (h .vp) (tokens (take (w .size) text)) → textRule mode (vp (s .first)) (tokens (s .text)) ≡ rule
     rule-is e = rw (text-is, ← (i .vp)) (sym e)
+
+    -- the text of a set that closes without a refusal is within the rules
+    pub within-rules : Accepts (close mode s p) → textRule mode (h .vp) (tokens (take (w .size) text)) ≡ 0
+    unfolding close isComment
+    within-rules a =
+        by-number (textRule mode (h .vp) (tokens (take (w .size) text)))
+        (λ g. g)
+        (λ m g. absurd (not-refused (rw (subtitle, rule-is (sym g), close) at a)))
 
     pub closed-broken :
         (r : Walk) {rule : ℕ} → rule ≡ textRule mode (h .vp) (tokens (take (w .size) text)) → (rule ≡ 0 → ⊥) → r .number ≡ rule

@@ -21,7 +21,7 @@ use Rattle.meaning.specs.Document.{Piece, Paragraph, Document, writeParagraph, 
 use Rattle.meaning.specs.Document.Piece.{span, br}
 use Rattle.meaning.specs.Conversion.{paragraphOf, documentOf, refusal, acceptance, answerTo, answer, bufferAfter, output}
 use Rattle.meaning.specs.Demands.{Bytes, FewestSpans}
-use Rattle.meaning.proofs.Logic.{by-test, by-number}
+use Rattle.meaning.proofs.Logic.{by-test, by-number, false-not-true}
 use Rattle.meaning.proofs.Demand3.{fewest-spans}
 use Rattle.meaning.proofs.Bounds.{document-bound, spans-bound}
 use Rattle.output.specs.Output.{past, Wrote}
@@ -33,10 +33,13 @@ use Rattle.text.specs.declared.Tally.{Tally}
 use Rattle.text.specs.Laid.{markedWith}
 use Rattle.document.specs.Parts.{headOf}
 use Rattle.convert.specs.declared.blocks.Walk.{Walk}
-use Rattle.convert.specs.Following.{markedAll, Keeps, KeepsIn, Ends, Ended}
+use Rattle.convert.specs.Following.{markedAll, Keeps, KeepsIn, Accepts, Ends, Ended}
 use Rattle.convert.specs.Measuring.{Tells, Told, Measured}
 
--- the first pass
+-- the first pass judges the texts
+pub judging : {o : Outcome} → true ≡ false → Accepts o
+judging e = absurd (false-not-true (sym e))
+
 told :
     (o : Outcome) (buf out : List ℕ) (n : ℕ) {marks : Marks} (w : Walk) → marks .on ≡ replicate 128 false
     → Ends buf (record { at = 0; spans = 0; marks = marks }) out n w o → Told w o
@@ -54,6 +57,14 @@ pub measured :
     {o : Outcome} {buf out : List ℕ} {n : ℕ} {marks : Marks} {w : Walk} → marks .on ≡ replicate 128 false
     → Ended buf (record { at = 0; spans = 0; marks = marks }) out n w o → Measured w o
 measured {o} {buf} {out} {n} {w = w} e a = record { told = told o buf out n w e (a .ends) }
+
+-- without a refusal the outcome is progress
+accepts-told : (o : Outcome) (w : Walk) → w .number ≡ 0 → Told w o → Accepts o
+accepts-told (refused m k) w z a = absurd (a .2 (sym (a .0) ∙ z))
+accepts-told (accepted p) w z a = record { progress = p; is = refl }
+
+pub accepts-measured : {o : Outcome} {w : Walk} → w .number ≡ 0 → Measured w o → Accepts o
+accepts-measured {o} {w} z a = accepts-told o w z (a .told)
 
 -- the second pass
 pub laid-all : {buf : List ℕ} {t : Tally} {out : List ℕ} {n : ℕ} {w : Walk} {o : Outcome} (p : Progress) → o ≡ accepted p → Ended buf t out n w o → KeepsIn buf t out n w p

@@ -21,12 +21,18 @@ use Rattle.text.specs.declared.Tally.{Tally}
 use Rattle.block.specs.BlockAt.{blockAt}
 use Rattle.block.proofs.Laws.{blocks-next}
 use Rattle.convert.specs.declared.blocks.Walk.{Walk}
-use Rattle.convert.specs.Following.{markedAll, setOf, currentOf, Keeps, KeepsIn, Follows, Answers, Ends, resume}
+use Rattle.convert.specs.Following.{markedAll, setOf, currentOf, Keeps, KeepsIn, Follows, Accepts, Answers, AnswersIf, Ends, resume}
 use Rattle.convert.proofs.Closing.{shut, open-now, follows-shut}
 
 walk-next : (mode rate k : ℕ) (p : Progress) (b : List ℕ) (bs : List (List ℕ)) → walk mode rate k p (b ∷ bs) ≡ resume mode rate (suc k) (step mode rate k b p) bs
 unfolding walk resume
 walk-next mode rate k p b bs = refl
+
+-- a walk without a refusal had none before
+accepts-before : (mode rate k : ℕ) (o : Outcome) (bs : List (List ℕ)) → Accepts (resume mode rate k o bs) → Accepts o
+unfolding resume
+accepts-before mode rate k (refused m j) bs a = a
+accepts-before mode rate k (accepted p) bs a = record { progress = p; is = refl }
 
 module _ (file : List ℕ) (n mode rate : ℕ) where
   abbrev all : Outcome
@@ -51,11 +57,12 @@ module _ (file : List ℕ) (n mode rate : ℕ) where
     step-ready z = going (l .so-far) (l .follows) z (λ p e f. (f .fits, l .long))
 
     pub blocks-less :
-        {text′ out′ : List ℕ} {r : Walk} → k < n → n < 144115188075855872 → w .number ≡ 0 → length text′ ≡ length text → length out′ ≡ length out
-        → ((buf : List ℕ) (t : Tally) (p : Progress) → k < 144115188075855872 → Follows file buf t text out k w p → Answers file buf t text′ out′ (suc k) r (step mode rate k (blockAt file k) p))
+        {judge : Bool} {text′ out′ : List ℕ} {r : Walk} → (judge ≡ false → Accepts all) → k < n → n < 144115188075855872 → w .number ≡ 0
+        → length text′ ≡ length text → length out′ ≡ length out
+        → ((buf : List ℕ) (t : Tally) (p : Progress) → k < 144115188075855872 → Follows file buf t text out k w p → AnswersIf judge file buf t text′ out′ (suc k) r (step mode rate k (blockAt file k) p))
         → BlocksLeft buf t text′ out′ r (k + 1)
     unfolding resume
-    blocks-less h s z a b c =
+    blocks-less v h s z a b c =
         going (l .so-far) (l .follows) z
         (λ p e f.
         let m : n - k ≡ suc (n - (k + 1)) = omega arith in
@@ -63,10 +70,12 @@ module _ (file : List ℕ) (n mode rate : ℕ) where
         subst (λ (o : Outcome). resume mode rate k o (blocks (n - k) (drop (1024 + 128 * k) file)) ≡ all) e (l .left) in
         let d : walk mode rate k p (blockAt file k ∷ blocks (n - (k + 1)) (drop (1024 + 128 * (k + 1)) file)) ≡ all =
         rw (m, blocks-next file k (n - (k + 1))) at g in
+        let rest : resume mode rate (k + 1) (step mode rate k (blockAt file k) p) (blocks (n - (k + 1)) (drop (1024 + 128 * (k + 1)) file)) ≡ all =
+        rw add-one (sym (walk-next mode rate k p (blockAt file k) _) ∙ rw add-one at d) in
         record {
           so-far = step mode rate k (blockAt file k) p;
-          follows = rw add-one (c buf t p (omega arith) f);
-          left = rw add-one (sym (walk-next mode rate k p (blockAt file k) _) ∙ rw add-one at d);
+          follows = rw add-one (c buf t p (omega arith) f (λ y. accepts-before mode rate (k + 1) _ _ (subst Accepts (sym rest) (v y))));
+          left = rest;
           few = omega arith;
           long = a ∙ l .long;
           same = b ∙ l .same;

@@ -61,6 +61,15 @@ abbrev pub Answers : List ℕ → List ℕ → Tally → List ℕ → List ℕ �
 Answers file buf t text out n w (refused m k) = (w .number ≡ m) × (w .place ≡ k) × (m ≡ 0 → ⊥)
 Answers file buf t text out n w (accepted p) = Follows file buf t text out n w p
 
+-- an outcome without a refusal
+pub record Accepts (o : Outcome) : Type 0 where
+  pub progress : Progress
+  pub is : o ≡ accepted progress
+
+-- a state that follows an outcome where texts are judged; where they are not, if the outcome is known to be no refusal
+abbrev pub AnswersIf : Bool → List ℕ → List ℕ → Tally → List ℕ → List ℕ → ℕ → Walk → Outcome → Type 0
+AnswersIf judge file buf t text out n w o = (judge ≡ false → Accepts o) → Answers file buf t text out n w o
+
 -- a set opened with block k
 pub record FirstBlock (w : Walk) (h : Header) (k long : ℕ) (r : Walk) : Type 0 where
   pub keeps :

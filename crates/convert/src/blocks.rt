@@ -5,6 +5,8 @@ ghost use mathlib.Core.Bool.{Bool, true, false};
 ghost use mathlib.Core.List.{List};
 ghost use Prim.Native.Nat.{ℕ, suc, _+_, _*_, _<_, _≤_};
 ghost use lib.ListN.{length, drop};
+ghost use Rattle.meaning.specs.Codes.{tokens};
+ghost use Rattle.meaning.specs.Rows.{textRule};
 ghost use Rattle.meaning.specs.Blocks as block;
 ghost use Rattle.meaning.proofs.Walk.{total};
 ghost use Rattle.meaning.specs.Sets.{OpenSet, Progress, countUser, countContinuation, countFirst, userBlock, firstBlock, furtherBlock, belongs, close, closeAtLast, opening, continuing, step, start, walk};
@@ -13,7 +15,7 @@ ghost use Rattle.output.specs.Output.{past};
 ghost use Rattle.block.specs.BlockAt.{blockAt};
 ghost use Rattle.block.specs.IsHeader.{IsHeader};
 ghost use Rattle.text.specs.declared.Tally.{Tally};
-ghost use Rattle.convert.specs.Following.{setOf, KeepsIn, Follows, Holds, Answers, Ended, FirstBlock, FurtherBlock};
+ghost use Rattle.convert.specs.Following.{setOf, KeepsIn, Follows, Holds, Accepts, AnswersIf, Ended, FirstBlock, FurtherBlock};
 use block::Header;
 use meaning::Counts;
 use text::Tally;
@@ -105,10 +107,20 @@ fn further_block(w: Walk, size: usize) -> Walk
     r
 }
 
+// The rule that a text breaks, or 0. Without `judge` it is not looked for: an earlier pass found none.
+fn verdict(judge: bool, body: &[u8], mode: u64, vp: u8) -> u64
+    ensures { λ r. ⌜ ((judge ≡ false → textRule mode vp (tokens (now (body .entry))) ≡ 0) → r ≡ textRule mode vp (tokens (now (body .entry)))) ⌝ }
+{
+    if judge {
+        return rows::text_rule(body, mode, vp);
+    }
+    0
+}
+
 // The open set closes: a comment is passed over, a subtitle is judged and laid. The header is that of its first block.
-fn close(mode: u64, text: &[u8], out: &mut [u8], w: Walk, h: Header) -> Walk
+fn close(mode: u64, judge: bool, text: &[u8], out: &mut [u8], w: Walk, h: Header) -> Walk
     requires { ⌜ (w .size ≤ 112 * w .next) × (w .next ≤ 241) × (length (now text) ≡ 26992) ⌝ }
-    ensures { λ r. ⌜ ((file buf : List ℕ) (t : Tally) (n : ℕ) (p : Progress) (s : OpenSet) → IsHeader (s .first) h → Holds file buf t (now (text .entry)) (now (out .entry)) n w p s → Answers file buf t (now (text .entry)) (now (out .exit)) n r (close mode s p)) ⌝ }
+    ensures { λ r. ⌜ ((file buf : List ℕ) (t : Tally) (n : ℕ) (p : Progress) (s : OpenSet) → IsHeader (s .first) h → Holds file buf t (now (text .entry)) (now (out .entry)) n w p s → AnswersIf judge file buf t (now (text .entry)) (now (out .exit)) n r (close mode s p)) ⌝ }
 {
     let mut r = w;
     r.open = false;
@@ -117,7 +129,7 @@ fn close(mode: u64, text: &[u8], out: &mut [u8], w: Walk, h: Header) -> Walk
     }
     let size = w.size;
     let body = &text[..size];
-    let rule = rows::text_rule(body, mode, h.vp);
+    let rule = verdict(judge, body, mode, h.vp);
     if rule != 0 {
         r.number = rule;
         r.place = w.first;
@@ -138,12 +150,20 @@ fn refused(w: Walk, number: u64, place: usize) -> Walk
 }
 
 // A block was added to the open set; FFh closes it.
-fn close_at_last(mode: u64, text: &[u8], out: &mut [u8], w: Walk, h: Header, ebn: u8) -> Walk
+fn close_at_last(
+    mode: u64,
+    judge: bool,
+    text: &[u8],
+    out: &mut [u8],
+    w: Walk,
+    h: Header,
+    ebn: u8,
+) -> Walk
     requires { ⌜ (w .size ≤ 112 * w .next) × (w .next ≤ 241) × (length (now text) ≡ 26992) ⌝ }
-    ensures { λ r. ⌜ ((file buf b : List ℕ) (t : Tally) (n : ℕ) (p : Progress) (s : OpenSet) → ebn ≡ block.ebn b → ((block.ebn b ≡ 255 → ⊥) → w .next ≤ 240) → IsHeader (s .first) h → Holds file buf t (now (text .entry)) (now (out .entry)) n w p s → Answers file buf t (now (text .entry)) (now (out .exit)) n r (closeAtLast mode b s p)) ⌝ }
+    ensures { λ r. ⌜ ((file buf b : List ℕ) (t : Tally) (n : ℕ) (p : Progress) (s : OpenSet) → ebn ≡ block.ebn b → ((block.ebn b ≡ 255 → ⊥) → w .next ≤ 240) → IsHeader (s .first) h → Holds file buf t (now (text .entry)) (now (out .entry)) n w p s → AnswersIf judge file buf t (now (text .entry)) (now (out .exit)) n r (closeAtLast mode b s p)) ⌝ }
 {
     if ebn == 255 {
-        return close(mode, text, out, w, h);
+        return close(mode, judge, text, out, w, h);
     }
     w
 }
@@ -163,13 +183,14 @@ fn opening(
     k: usize,
     mode: u64,
     rate: u64,
+    judge: bool,
     text: &mut [u8],
     out: &mut [u8],
     w: Walk,
     h: Header,
 ) -> Walk
     requires { ⌜ length (now text) ≡ 26992 ⌝ }
-    ensures { λ r. ⌜ ((buf : List ℕ) (t : Tally) (p : Progress) → k < 144115188075855872 → IsHeader (blockAt (now (file .entry)) k) h → KeepsIn buf t (now (out .entry)) k w p → Answers (now (file .entry)) buf t (now (text .exit)) (now (out .exit)) (suc k) r (opening mode rate k (blockAt (now (file .entry)) k) p)) ⌝ }
+    ensures { λ r. ⌜ ((buf : List ℕ) (t : Tally) (p : Progress) → k < 144115188075855872 → IsHeader (blockAt (now (file .entry)) k) h → KeepsIn buf t (now (out .entry)) k w p → AnswersIf judge (now (file .entry)) buf t (now (text .exit)) (now (out .exit)) (suc k) r (opening mode rate k (blockAt (now (file .entry)) k) p)) ⌝ }
 {
     let ebn = h.ebn;
     if !((ebn == 0) | (ebn == 255)) {
@@ -181,7 +202,7 @@ fn opening(
     }
     let size = stl::put_text(text, 0, file, k);
     let o = first_block(w, h, k, size);
-    close_at_last(mode, text, out, o, h, ebn)
+    close_at_last(mode, judge, text, out, o, h, ebn)
 }
 
 // Block k of the open set, whose first block has the header `first`.
@@ -189,6 +210,7 @@ fn continuing(
     file: &[u8],
     k: usize,
     mode: u64,
+    judge: bool,
     text: &mut [u8],
     out: &mut [u8],
     w: Walk,
@@ -196,7 +218,7 @@ fn continuing(
     h: Header,
 ) -> Walk
     requires { ⌜ (w .size ≤ 112 * w .next) × (w .next ≤ 240) × (length (now text) ≡ 26992) ⌝ }
-    ensures { λ r. ⌜ ((buf : List ℕ) (t : Tally) (p : Progress) (s : OpenSet) → k < 144115188075855872 → IsHeader (s .first) first → IsHeader (blockAt (now (file .entry)) k) h → w .open ≡ true → s ≡ setOf (now (file .entry)) w (now (text .entry)) → KeepsIn buf t (now (out .entry)) k w p → Answers (now (file .entry)) buf t (now (text .exit)) (now (out .exit)) (suc k) r (continuing mode k (blockAt (now (file .entry)) k) s p)) ⌝ }
+    ensures { λ r. ⌜ ((buf : List ℕ) (t : Tally) (p : Progress) (s : OpenSet) → k < 144115188075855872 → IsHeader (s .first) first → IsHeader (blockAt (now (file .entry)) k) h → w .open ≡ true → s ≡ setOf (now (file .entry)) w (now (text .entry)) → KeepsIn buf t (now (out .entry)) k w p → AnswersIf judge (now (file .entry)) buf t (now (text .exit)) (now (out .exit)) (suc k) r (continuing mode k (blockAt (now (file .entry)) k) s p)) ⌝ }
 {
     let ebn = h.ebn;
     if !belongs(first, w.next, h) {
@@ -204,7 +226,7 @@ fn continuing(
     }
     let size = stl::put_text(text, w.size, file, k);
     let o = further_block(w, size);
-    close_at_last(mode, text, out, o, first, ebn)
+    close_at_last(mode, judge, text, out, o, first, ebn)
 }
 
 // One block: user data is passed over wherever it stands.
@@ -213,12 +235,13 @@ fn step(
     k: usize,
     mode: u64,
     rate: u64,
+    judge: bool,
     text: &mut [u8],
     out: &mut [u8],
     w: Walk,
 ) -> Walk
     requires { ⌜ (w .open ≡ true → (w .size ≤ 112 * w .next) × (w .next ≤ 240)) × (length (now text) ≡ 26992) ⌝ }
-    ensures { λ r. ⌜ ((buf : List ℕ) (t : Tally) (p : Progress) → k < 144115188075855872 → Follows (now (file .entry)) buf t (now (text .entry)) (now (out .entry)) k w p → Answers (now (file .entry)) buf t (now (text .exit)) (now (out .exit)) (suc k) r (step mode rate k (blockAt (now (file .entry)) k) p)) ⌝ }
+    ensures { λ r. ⌜ ((buf : List ℕ) (t : Tally) (p : Progress) → k < 144115188075855872 → Follows (now (file .entry)) buf t (now (text .entry)) (now (out .entry)) k w p → AnswersIf judge (now (file .entry)) buf t (now (text .exit)) (now (out .exit)) (suc k) r (step mode rate k (blockAt (now (file .entry)) k) p)) ⌝ }
 {
     let h = block::header_at(file, k);
     if h.ebn == 254 {
@@ -226,22 +249,24 @@ fn step(
     }
     if w.open {
         let first = block::header_at(file, w.first);
-        return continuing(file, k, mode, text, out, w, first, h);
+        return continuing(file, k, mode, judge, text, out, w, first, h);
     }
-    opening(file, k, mode, rate, text, out, w, h)
+    opening(file, k, mode, rate, judge, text, out, w, h)
 }
 
-// The walk over all n blocks, from a tally on. A set open at the end is refused at the block count.
+// The walk over all n blocks, from a tally on. A set open at the end is refused at the block count. Texts are not judged
+// again in a file that is known to be accepted.
 pub(crate) fn run(
     file: &[u8],
     n: usize,
     mode: u64,
     rate: u64,
+    judge: bool,
     text: &mut [u8],
     out: &mut [u8],
     t: Tally,
 ) -> Walk
-    requires { ⌜ (n < 144115188075855872) × (length (now text) ≡ 26992) ⌝ }
+    requires { ⌜ (n < 144115188075855872) × (length (now text) ≡ 26992) × (judge ≡ false → Accepts (walk mode rate 0 start (blocks n (drop 1024 (now file))))) ⌝ }
     ensures { λ r. ⌜ Ended (now (out .entry)) t (now (out .exit)) n r (walk mode rate 0 start (blocks n (drop 1024 (now (file .entry))))) ⌝ }
 {
     let counts = Counts {
@@ -266,7 +291,7 @@ pub(crate) fn run(
         if w.number != 0 {
             return w;
         }
-        w = step(file, k, mode, rate, text, out, w);
+        w = step(file, k, mode, rate, judge, text, out, w);
         k += 1;
     }
     if w.number != 0 {

@@ -14,6 +14,7 @@ ghost use Rattle.meaning.specs.Conversion.{paragraphOf, refusal, acceptance, an
 ghost use Rattle.meaning.specs.Demands.{FewestSpans};
 ghost use Rattle.output.specs.Output.{stored, past, Wrote};
 ghost use Rattle.document.specs.Parts.{headOf};
+ghost use Rattle.convert.specs.Following.{Accepts};
 ghost use Rattle.convert.specs.Measuring.{Measured, numbersOf};
 use blocks::Walk;
 use meaning::Answer;
@@ -75,7 +76,7 @@ fn measure(file: &[u8], n: usize, mode: u64, rate: u64, text: &mut [u8]) -> Walk
         spans: 0,
         marks: Marks::clear(),
     };
-    blocks::run(file, n, mode, rate, text, &mut none, t)
+    blocks::run(file, n, mode, rate, true, text, &mut none, t)
 }
 
 // The length of a document with these looks in use, whose paragraphs have the given length.
@@ -87,7 +88,7 @@ fn length_of(rate: u8, marks: Marks, body: usize) -> usize
     plus(plus(head, body), 28)
 }
 
-// The second pass: head, paragraphs, tail.
+// The second pass, over a file that the first accepted: head, paragraphs, tail.
 fn write(
     file: &[u8],
     n: usize,
@@ -97,7 +98,7 @@ fn write(
     out: &mut [u8],
     marks: Marks,
 ) -> usize
-    requires { ⌜ (n < 144115188075855872) × (length (now text) ≡ 26992) ⌝ }
+    requires { ⌜ (n < 144115188075855872) × (length (now text) ≡ 26992) × Accepts (walk mode rate 0 start (blocks n (drop 1024 (now file)))) ⌝ }
     ensures { λ r. ⌜ ((p : Progress) → walk mode rate 0 start (blocks n (drop 1024 (now (file .entry)))) ≡ accepted p → Wrote (now (out .entry)) 0 (headOf rate (marks .on) ++ (joinMap writeParagraph (map paragraphOf (p .subtitles)) ++ afterParagraphs)) (now (out .exit)) r) ⌝ }
 {
     let at = document::put_head(out, 0, rate, marks);
@@ -106,7 +107,7 @@ fn write(
         spans: 0,
         marks: Marks::clear(),
     };
-    let w = blocks::run(file, n, mode, rate as u64, text, out, t);
+    let w = blocks::run(file, n, mode, rate as u64, false, text, out, t);
     let tally = w.tally;
     document::put_tail(out, tally.at)
 }

@@ -5,7 +5,7 @@ use native.Mathlib.Omega.{arith}
 use mathlib.Core.Path.{_∙_}
 use lib.ListN.{length-replicate}
 use borrow.Author.Needs.{needs}
-use Rattle.convert.proofs.Converting.{rate-low, blocks-few, right-rule, right-walk, right-short, right-written}
+use Rattle.convert.proofs.Converting.{accepts-measured, rate-low, blocks-few, right-rule, right-walk, right-short, right-written}
 use Rattle.convert.proofs.convert.Statement.{statement}
 use Rattle.convert.proofs.convert.Tie as tie
 
@@ -55,7 +55,7 @@ slice-aggregate-write : tie.Need-slice-aggregate-write
 slice-aggregate-write c = search needs
 
 write-requires : tie.Need-write-requires
-write-requires c κs = (rw (c .before .before .before .before .before .before .before .before .before .before .before .before .before .block-count .ensures) (blocks-few _ (omega arith)), c .before .before .before .before .before .before .before .before .before .before .measure .kept .1 .1 .1 .1 .0 ∙ length-replicate {A = ℕ} 26992 0)
+write-requires c κs = (rw (c .before .before .before .before .before .before .before .before .before .before .before .before .before .block-count .ensures) (blocks-few _ (omega arith)), c .before .before .before .before .before .before .before .before .before .before .measure .kept .1 .1 .1 .1 .0 ∙ length-replicate {A = ℕ} 26992 0, accepts-measured (c .before .before .before .before .before .before .before .if2 .left) (c .before .before .before .before .before .before .before .before .before .before .measure .ensures))
 
 accepted-requires : tie.Need-accepted-requires
 accepted-requires c κs = search needs

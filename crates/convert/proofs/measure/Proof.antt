@@ -1,7 +1,7 @@
 -- `measure` is the walk over a buffer of no use.
 -- Assumes nothing.
 use borrow.Author.Needs.{needs}
-use Rattle.convert.proofs.Converting.{measured}
+use Rattle.convert.proofs.Converting.{judging, measured}
 use Rattle.convert.proofs.measure.Statement.{statement}
 use Rattle.convert.proofs.measure.Tie as tie
 
@@ -12,7 +12,7 @@ slice-aggregate-run : tie.Need-slice-aggregate-run
 slice-aggregate-run c = search needs
 
 run-requires : tie.Need-run-requires
-run-requires c κs = search needs
+run-requires c κs = (search needs, search needs, judging)
 
 same-length : tie.Need-same-length
 same-length c = search needs

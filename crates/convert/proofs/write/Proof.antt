@@ -13,7 +13,7 @@ clear-requires : tie.Need-clear-requires
 clear-requires c κs = search needs
 
 run-requires : tie.Need-run-requires
-run-requires c κs = search needs
+run-requires c κs = let e = c .before .before .before .before .before .before .before .before .before .before .pre in (e .0, e .1, λ z. e .2)
 
 put-tail-requires : tie.Need-put-tail-requires
 put-tail-requires c κs = search needs

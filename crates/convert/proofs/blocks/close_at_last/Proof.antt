@@ -21,7 +21,7 @@ returns c = λ file buf b t n p s e g i o. rw (eq-eqb (ebn b) 255 (sym e ∙ c .
 
 returns-2 : tie.Need-returns-2
 unfolding closeAtLast
-returns-2 c = λ file buf b t n p s e g i o. rw (ne-eqb (ebn b) 255 (λ z. c .if1 .left (e ∙ z)), closeAtLast) (follows-open o (g (λ z. c .if1 .left (e ∙ z))))
+returns-2 c = λ file buf b t n p s e g i o. rw (ne-eqb (ebn b) 255 (λ z. c .if1 .left (e ∙ z)), closeAtLast) (λ a. follows-open o (g (λ z. c .if1 .left (e ∙ z))))
 
 pub close-at-last-spec : {M : Type 1} → statement M
 close-at-last-spec = tie.close (tie.spec close-requires same-length returns returns-2)

@@ -14,7 +14,7 @@ refused-requires : tie.Need-refused-requires
 refused-requires c κs = search needs
 
 returns : tie.Need-returns
-returns c = λ buf t p s n i j o q k. rw (continuing-wrong _ _ _ s p (c .before .before .belongs .ensures s _ i j (next-is _ _ _ q)) (c .before .if1 .taken)) (c .refused .ensures .0, c .refused .ensures .1, λ z. omega arith)
+returns c = λ buf t p s n i j o q k. rw (continuing-wrong _ _ _ s p (c .before .before .belongs .ensures s _ i j (next-is _ _ _ q)) (c .before .if1 .taken)) (λ a. (c .refused .ensures .0, c .refused .ensures .1, λ z. omega arith))
 
 put-text-requires : tie.Need-put-text-requires
 put-text-requires c κs = search needs

@@ -11,7 +11,7 @@ refused-requires : tie.Need-refused-requires
 refused-requires c κs = search needs
 
 returns : tie.Need-returns
-returns c = λ buf t p s i k. rw (opening-wrong _ _ _ _ p i (c .before .if1 .taken)) (c .refused .ensures .0, c .refused .ensures .1, λ z. omega arith)
+returns c = λ buf t p s i k. rw (opening-wrong _ _ _ _ p i (c .before .if1 .taken)) (λ a. (c .refused .ensures .0, c .refused .ensures .1, λ z. omega arith))
 
 first-block-rule-requires : tie.Need-first-block-rule-requires
 first-block-rule-requires c κs = search needs
@@ -22,7 +22,7 @@ refused-requires-2 c κs = search needs
 returns-2 : tie.Need-returns-2
 returns-2 c = λ buf t p s i k.
     rw (opening-broken _ _ _ _ p i (c .before .before .before .if1 .left) (k .least) (c .before .before .first-block-rule .ensures _ i) (c .before .if2 .taken))
-    (c .refused2 .ensures .0, c .refused2 .ensures .1, c .before .if2 .taken)
+    (λ a. (c .refused2 .ensures .0, c .refused2 .ensures .1, c .before .if2 .taken))
 
 put-text-requires : tie.Need-put-text-requires
 put-text-requires c κs = search needs

@@ -10,10 +10,10 @@ use Rattle.convert.proofs.blocks.run.Statement.{statement}
 use Rattle.convert.proofs.blocks.run.Tie as tie
 
 abbrev Inv-loop : tie.InvT-loop
-Inv-loop file n mode rate text₀ out₀ w₀ k₀ text out w k = BlocksLeft file n mode rate out₀ (w₀ .tally) text out w k
+Inv-loop file n mode rate judge text₀ out₀ w₀ k₀ text out w k = BlocksLeft file n mode rate out₀ (w₀ .tally) text out w k
 
 abbrev μ-loop : tie.MeasureT-loop
-μ-loop file n mode rate text₀ out₀ w₀ k₀ text out w k = n - k
+μ-loop file n mode rate judge text₀ out₀ w₀ k₀ text out w k = n - k
 
 loop-holds : tie.Need-loop-holds Inv-loop μ-loop
 unfolding noCounts
@@ -38,7 +38,7 @@ loop-less : tie.Need-loop-less Inv-loop μ-loop
 loop-less c = search needs
 
 loop-again : tie.Need-loop-again Inv-loop μ-loop
-loop-again c = blocks-less _ _ _ _ (c .before .before .before .before .before .before .before .before .before .before .loop .inv) (c .before .before .before .before .before .before .before .before .before .loop-test .taken) (c .before .before .before .before .before .before .before .before .before .before .before .before .before .before .pre .0) (c .before .before .before .before .before .before .before .if1 .left) (c .before .before .before .before .step .kept .1 .1 .1 .1 .0) (c .before .before .before .before .step .kept .1 .1 .1 .1 .1 .0) (c .before .before .before .before .step .ensures)
+loop-again c = blocks-less _ _ _ _ (c .before .before .before .before .before .before .before .before .before .before .loop .inv) (c .before .before .before .before .before .before .before .before .before .before .before .before .before .before .pre .2) (c .before .before .before .before .before .before .before .before .before .loop-test .taken) (c .before .before .before .before .before .before .before .before .before .before .before .before .before .before .pre .0) (c .before .before .before .before .before .before .before .if1 .left) (c .before .before .before .before .step .kept .1 .1 .1 .1 .1 .0) (c .before .before .before .before .step .kept .1 .1 .1 .1 .1 .1 .0) (c .before .before .before .before .step .ensures)
 
 same-length-3 : tie.Need-same-length-3 Inv-loop μ-loop
 same-length-3 c = c .before .before .before .loop .inv .long ∙ sym (c .before .before .before .before .before .before .before .pre .1)

@@ -18,7 +18,7 @@ user-block-requires c κs = search needs
 
 returns : tie.Need-returns
 unfolding step
-returns c = λ buf t p n f. rw (eq-eqb (ebn _) 254 (sym (c .before .before .before .header-at .ensures .ebn) ∙ c .before .if1 .taken), step) (c .user-block .ensures _ buf _ _ t _ p n f)
+returns c = λ buf t p n f. rw (eq-eqb (ebn _) 254 (sym (c .before .before .before .header-at .ensures .ebn) ∙ c .before .if1 .taken), step) (λ a. c .user-block .ensures _ buf _ _ t _ p n f)
 
 header-at-requires-2 : tie.Need-header-at-requires-2
 header-at-requires-2 c κs = search needs
