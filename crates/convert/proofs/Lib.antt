@@ -1,5 +1,5 @@
 pub mod Laying
-pub mod Counting
+pub mod CountLaws
 pub mod Keeping
 pub mod Closing
 pub mod BlockLaws

@@ -8,14 +8,15 @@ ghost use lib.ListN.{length, drop};
 ghost use Rattle.meaning.specs.Codes.{tokens};
 ghost use Rattle.meaning.specs.Rows.{textRule};
 ghost use Rattle.meaning.specs.Blocks as block;
-ghost use Rattle.meaning.proofs.Walk.{total};
-ghost use Rattle.meaning.specs.Sets.{OpenSet, Progress, countUser, countContinuation, countFirst, userBlock, firstBlock, furtherBlock, belongs, close, closeAtLast, opening, continuing, step, start, walk};
+ghost use Rattle.meaning.specs.Sets.{OpenSet, Progress, userBlock, belongs, close, closeAtLast, opening, continuing, step, start, walk};
 ghost use Rattle.meaning.specs.Blocks.{blocks};
-ghost use Rattle.output.specs.Output.{past};
 ghost use Rattle.block.specs.BlockAt.{blockAt};
 ghost use Rattle.block.specs.IsHeader.{IsHeader};
 ghost use Rattle.text.specs.declared.Tally.{Tally};
 ghost use Rattle.convert.specs.Following.{setOf, KeepsIn, Follows, Holds, Accepts, AnswersIf, Ended, FirstBlock, FurtherBlock};
+use crate::counting::count_continuation;
+use crate::counting::count_first;
+use crate::counting::count_user;
 use block::Header;
 use meaning::Counts;
 use text::Tally;
@@ -32,42 +33,6 @@ pub struct Walk {
     pub size: usize,
     pub counts: Counts,
     pub tally: Tally,
-}
-
-// One more; it stays at the largest number.
-fn more(n: u64) -> u64
-    ensures { λ r. ⌜ r ≡ past n 1 ⌝ }
-{
-    if n < 18446744073709551615 { n + 1 } else { n }
-}
-
-// The counts with one more block. No file has so many blocks that a count would stay behind.
-fn count_user(c: Counts) -> Counts
-    ensures { λ r. ⌜ (total c < 144115188075855872 → r ≡ countUser c) ⌝ }
-{
-    let mut r = c;
-    r.users = more(c.users);
-    r
-}
-
-fn count_continuation(c: Counts) -> Counts
-    ensures { λ r. ⌜ (total c < 144115188075855872 → r ≡ countContinuation c) ⌝ }
-{
-    let mut r = c;
-    r.continuations = more(c.continuations);
-    r
-}
-
-fn count_first(c: Counts, cf: u8) -> Counts
-    ensures { λ r. ⌜ ((b : List ℕ) → cf ≡ block.cf b → total c < 144115188075855872 → r ≡ countFirst b c) ⌝ }
-{
-    let mut r = c;
-    if cf == 1 {
-        r.comments = more(c.comments);
-        return r;
-    }
-    r.subtitles = more(c.subtitles);
-    r
 }
 
 fn user_block(w: Walk) -> Walk

@@ -23,6 +23,7 @@ use styles::Marks;
 use text::Tally;
 
 mod blocks;
+mod counting;
 
 fn refused(number: u64, place: u64, needed: u64) -> Answer
     ensures { λ r. ⌜ r ≡ refusal number place needed ⌝ }

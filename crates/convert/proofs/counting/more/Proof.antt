@@ -1,10 +1,10 @@
--- `blocks::more` meets its contract.
+-- `counting::more` meets its contract.
 -- Assumes nothing.
 use native.Mathlib.Omega.{arith}
 use borrow.Author.Needs.{needs}
 use Rattle.output.specs.Output.{past}
-use Rattle.convert.proofs.blocks.more.Statement.{statement}
-use Rattle.convert.proofs.blocks.more.Tie as tie
+use Rattle.convert.proofs.counting.more.Statement.{statement}
+use Rattle.convert.proofs.counting.more.Tie as tie
 
 add-result : tie.Need-add-result
 add-result c = search needs

@@ -1,10 +1,10 @@
--- `blocks::count_first` meets its contract.
+-- `counting::count_first` meets its contract.
 -- Assumes nothing.
 use mathlib.Core.Path.{sym, _∙_}
 use borrow.Author.Needs.{needs}
-use Rattle.convert.proofs.Counting.{counted-comment, counted-subtitle}
-use Rattle.convert.proofs.blocks.count_first.Statement.{statement}
-use Rattle.convert.proofs.blocks.count_first.Tie as tie
+use Rattle.convert.proofs.CountLaws.{counted-comment, counted-subtitle}
+use Rattle.convert.proofs.counting.count_first.Statement.{statement}
+use Rattle.convert.proofs.counting.count_first.Tie as tie
 
 more-requires : tie.Need-more-requires
 more-requires c κs = search needs

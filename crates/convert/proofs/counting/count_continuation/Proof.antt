@@ -1,9 +1,9 @@
--- `blocks::count_continuation` meets its contract.
+-- `counting::count_continuation` meets its contract.
 -- Assumes nothing.
 use borrow.Author.Needs.{needs}
-use Rattle.convert.proofs.Counting.{counted-continuation}
-use Rattle.convert.proofs.blocks.count_continuation.Statement.{statement}
-use Rattle.convert.proofs.blocks.count_continuation.Tie as tie
+use Rattle.convert.proofs.CountLaws.{counted-continuation}
+use Rattle.convert.proofs.counting.count_continuation.Statement.{statement}
+use Rattle.convert.proofs.counting.count_continuation.Tie as tie
 
 more-requires : tie.Need-more-requires
 more-requires c κs = search needs

@@ -1,9 +1,9 @@
--- `blocks::count_user` meets its contract.
+-- `counting::count_user` meets its contract.
 -- Assumes nothing.
 use borrow.Author.Needs.{needs}
-use Rattle.convert.proofs.Counting.{counted-user}
-use Rattle.convert.proofs.blocks.count_user.Statement.{statement}
-use Rattle.convert.proofs.blocks.count_user.Tie as tie
+use Rattle.convert.proofs.CountLaws.{counted-user}
+use Rattle.convert.proofs.counting.count_user.Statement.{statement}
+use Rattle.convert.proofs.counting.count_user.Tie as tie
 
 more-requires : tie.Need-more-requires
 more-requires c κs = search needs
