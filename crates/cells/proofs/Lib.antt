@@ -3,6 +3,8 @@ pub mod Trimming
 pub mod Ground
 pub mod Growing
 pub mod Spanning
+pub mod Storing
+pub mod Running
 pub mod Decoding
 pub mod ReadBack
 pub mod Laws

@@ -1,10 +1,11 @@
 // One row of a text, decoded into two lent arrays, and what is shown of the cells there: their range, and its spans.
 
 ghost use mathlib.Core.Path.{_≡_};
-ghost use Prim.Native.Nat.{_<_, _≤_, min};
-ghost use lib.ListN.{length, set};
+ghost use Prim.Native.Nat.{_-_, _<_, _≤_, min};
+ghost use lib.ListN.{length, set, replicate};
 ghost use Rattle.meaning.specs.Looks.{pack};
 ghost use Rattle.meaning.specs.Cells.{isBlankOnBlack, trimFront, trimBack};
+ghost use Rattle.output.specs.Output.{stored};
 ghost use Rattle.cells.specs.Arrays.{cellOf, cellsAt, cut};
 ghost use Rattle.cells.specs.Decoded.{Decoded};
 ghost use Rattle.cells.specs.Ranges.{cellsTo, ShownRange, FirstSpan};
@@ -52,7 +53,59 @@ fn put_look(looks: &mut [u8], k: usize, look: Look)
     }
 }
 
-// The cells of the row that starts at a position. Those that the arrays have no place for are counted all the same.
+fn least(a: usize, b: usize) -> usize
+    ensures { λ r. ⌜ r ≡ min a b ⌝ }
+{
+    if a <= b { a } else { b }
+}
+
+// How many of n cells an array has places for from an index on.
+fn places(size: usize, k: usize, n: usize) -> usize
+    ensures { λ r. ⌜ r ≡ min n (size - k) ⌝ }
+{
+    if size <= k {
+        return 0;
+    }
+    least(n, size - k)
+}
+
+// Each code is its own character. The places are counted once, before the loop.
+fn put_characters(characters: &mut [u16], k: usize, codes: &[u8])
+    ensures { λ _. ⌜ now (characters .exit) ≡ stored (now (characters .entry)) k (now (codes .entry)) ⌝ }
+{
+    let n = places(characters.len(), k, codes.len());
+    let mut j = 0;
+    while j < n {
+        characters[k + j] = codes[j] as u16;
+        j += 1;
+    }
+}
+
+// n cells of one look.
+fn put_looks(looks: &mut [u8], k: usize, n: usize, look: Look)
+    requires { ⌜ pack look < 128 ⌝ }
+    ensures { λ _. ⌜ now (looks .exit) ≡ stored (now (looks .entry)) k (replicate n (pack look)) ⌝ }
+{
+    let packed = look.pack() as u8;
+    let n = places(looks.len(), k, n);
+    let mut j = 0;
+    while j < n {
+        looks[k + j] = packed;
+        j += 1;
+    }
+}
+
+// The cells of a run of plain codes, which leave the look as it is.
+fn put_run(characters: &mut [u16], looks: &mut [u8], k: usize, codes: &[u8], look: Look)
+    requires { ⌜ pack look < 128 ⌝ }
+    ensures { λ _. ⌜ (now (characters .exit) ≡ stored (now (characters .entry)) k (now (codes .entry))) × (now (looks .exit) ≡ stored (now (looks .entry)) k (replicate (length (now (codes .entry))) (pack look))) ⌝ }
+{
+    put_characters(characters, k, codes);
+    put_looks(looks, k, codes.len(), look);
+}
+
+// The cells of the row that starts at a position. Those that the arrays have no place for are counted all the same. Most
+// codes are plain, so the run of them after a token is stored at once.
 pub fn decode_row(
     text: &[u8],
     start: usize,
@@ -81,7 +134,10 @@ pub fn decode_row(
         put_look(looks, n, here);
         look = cell.after;
         n += 1;
-        i = reading.next;
+        let after = reading.next;
+        i = charset::plain_end(text, after);
+        put_run(characters, looks, n, &text[after..i], look);
+        n += i - after;
     }
     RowRead {
         cells: n,
@@ -125,12 +181,6 @@ fn end_shown(characters: &[u16], looks: &[u8], start: usize, n: usize) -> usize
         end = last;
     }
     end
-}
-
-fn least(a: usize, b: usize) -> usize
-    ensures { λ r. ⌜ r ≡ min a b ⌝ }
-{
-    if a <= b { a } else { b }
 }
 
 // Both arrays have the cells below the result.

@@ -1,4 +1,4 @@
--- `decode_row` leaves a row's cells in the arrays. Each turn reads a token, and storing what is left gives what storing the whole row gives.
+-- `decode_row` leaves a row's cells in the arrays. Each turn reads a token and the run of plain codes after it, and storing what is left gives what storing the whole row gives.
 -- Assumes nothing.
 use Prim.Native.Nat.{_-_}
 use native.Mathlib.Omega.{arith}
@@ -8,7 +8,8 @@ use Rattle.charset.proofs.Laws.{read-on}
 use borrow.Author.Needs.{needs}
 use Rattle.cells.proofs.decode_row.Statement.{statement}
 use Rattle.cells.proofs.decode_row.Tie as tie
-use Rattle.cells.proofs.Decoding.{Ahead, ahead-all, ahead-small, ahead-more, ahead-row-end, ahead-text-end}
+use Rattle.cells.proofs.Decoding.{Ahead, ahead-all, small-here, small-after, ahead-more, ahead-run, ahead-row-end, ahead-text-end}
+use Rattle.cells.proofs.Running.{run-on}
 
 abbrev Inv-loop : tie.InvT-loop
 Inv-loop text start double characters₀ looks₀ look₀ i₀ n₀ characters looks look i n = Ahead text start double characters₀ looks₀ characters looks look i n
@@ -52,7 +53,7 @@ put-look-requires c κs =
     let e = d .before in
     let t = e .before .before in
     let o = read-on (t .token-at .ensures) (t .before .loop-test .taken) in
-    ahead-small (t .before .before .loop .inv) o (sym (e .before .is-row-end .ensures) ∙ e .if1 .left) (d .draw .ensures .1)
+    small-here (t .before .before .loop .inv) o (sym (e .before .is-row-end .ensures) ∙ e .if1 .left) (d .draw .ensures .1)
 
 add-n : tie.Need-add-n Inv-loop μ-loop
 add-n c =
@@ -60,24 +61,84 @@ add-n c =
     let l = t .before .before in
     omega (arith, l .loop .inv .passed, t .before .loop-test .taken, l .before .before .before .before .before .good)
 
+plain-end-requires : tie.Need-plain-end-requires Inv-loop μ-loop
+plain-end-requires c κs = search needs
+
+sub-put-run : tie.Need-sub-put-run Inv-loop μ-loop
+sub-put-run c =
+    let p = c .before .before in
+    let t = p .before .before .before .before .before .before .before .before .before .before .before .before .before .before in
+    let o = read-on (t .token-at .ensures) (t .before .loop-test .taken) in
+    let w = run-on (p .plain-end .ensures) (o .within) in
+    w .on
+
+part-put-run-start : tie.Need-part-put-run-start Inv-loop μ-loop
+part-put-run-start c =
+    let p = c .before .before in
+    let t = p .before .before .before .before .before .before .before .before .before .before .before .before .before .before in
+    let o = read-on (t .token-at .ensures) (t .before .loop-test .taken) in
+    let w = run-on (p .plain-end .ensures) (o .within) in
+    search needs
+
+part-put-run-end : tie.Need-part-put-run-end Inv-loop μ-loop
+part-put-run-end c =
+    let p = c .before .before in
+    let t = p .before .before .before .before .before .before .before .before .before .before .before .before .before .before in
+    let o = read-on (t .token-at .ensures) (t .before .loop-test .taken) in
+    let w = run-on (p .plain-end .ensures) (o .within) in
+    search needs
+
+put-run-requires : tie.Need-put-run-requires Inv-loop μ-loop
+put-run-requires c κs =
+    let d = c .before .before .before .before .before .before .before .before .before .before .before .before .before .before in
+    let e = d .before in
+    let t = e .before .before in
+    let o = read-on (t .token-at .ensures) (t .before .loop-test .taken) in
+    small-after (t .before .before .loop .inv) o (sym (e .before .is-row-end .ensures) ∙ e .if1 .left) (d .draw .ensures .2)
+
+sub-n : tie.Need-sub-n Inv-loop μ-loop
+sub-n c =
+    let p = c .before .before .before .before .before .before .before .before in
+    let t = p .before .before .before .before .before .before .before .before .before .before .before .before .before .before in
+    let o = read-on (t .token-at .ensures) (t .before .loop-test .taken) in
+    let w = run-on (p .plain-end .ensures) (o .within) in
+    w .on
+
+add-n-2 : tie.Need-add-n-2 Inv-loop μ-loop
+add-n-2 c =
+    let p = c .before .before .before .before .before .before .before .before in
+    let t = p .before .before .before .before .before .before .before .before .before .before .before .before .before .before in
+    let o = read-on (t .token-at .ensures) (t .before .loop-test .taken) in
+    let w = run-on (p .plain-end .ensures) (o .within) in
+    let l = t .before .before in
+    omega (arith, l .loop .inv .passed, o .on, w .on, w .within, l .before .before .before .before .before .good)
+
 loop-less : tie.Need-loop-less Inv-loop μ-loop
 loop-less c =
-    let t = c .before .before .before .before .before .before .before .before .before .before .before .before .before in
+    let p = c .before .before .before .before .before .before .before .before in
+    let t = p .before .before .before .before .before .before .before .before .before .before .before .before .before .before in
     let o = read-on (t .token-at .ensures) (t .before .loop-test .taken) in
-    omega (arith, o .on, t .before .loop-test .taken)
+    let w = run-on (p .plain-end .ensures) (o .within) in
+    omega (arith, o .on, w .on, w .within)
 
 loop-again : tie.Need-loop-again Inv-loop μ-loop
 loop-again c =
-    let l = c .before .before .before in
-    let p = l .before .before .before .before .before in
-    let d = p .before .before in
+    let m = c .before .before .before .before in
+    let p = m .before .before .before .before in
+    let l = p .before .before .before .before in
+    let q = l .before .before .before .before .before in
+    let d = q .before .before in
     let e = d .before in
     let t = e .before .before in
     let o = read-on (t .token-at .ensures) (t .before .loop-test .taken) in
     let s = d .draw .ensures in
-    ahead-more (t .before .before .loop .inv) o (sym (e .before .is-row-end .ensures) ∙ e .if1 .left) (s .0) (s .1) (s .2)
-    (p .put-character .ensures)
-    (l .put-look .ensures)
+    ahead-run
+    (ahead-more (t .before .before .loop .inv) o (sym (e .before .is-row-end .ensures) ∙ e .if1 .left) (s .0) (s .1) (s .2)
+    (q .put-character .ensures)
+    (l .put-look .ensures))
+    (run-on (p .plain-end .ensures) (o .within))
+    (m .put-run .ensures .0)
+    (m .put-run .ensures .1)
 
 same-length-3 : tie.Need-same-length-3 Inv-loop μ-loop
 same-length-3 c = search needs
@@ -105,6 +166,13 @@ decode-row-spec =
     put-character-requires
     put-look-requires
     add-n
+    plain-end-requires
+    sub-put-run
+    part-put-run-start
+    part-put-run-end
+    put-run-requires
+    sub-n
+    add-n-2
     loop-less
     loop-again
     same-length-3
