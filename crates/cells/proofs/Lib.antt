@@ -2,6 +2,7 @@ pub mod Arrays
 pub mod Trimming
 pub mod Ground
 pub mod Growing
+pub mod Settled
 pub mod Spanning
 pub mod Storing
 pub mod Running

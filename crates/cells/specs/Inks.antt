@@ -12,6 +12,10 @@ use Rattle.cells.specs.declared.joining.Ink.{Ink}
 unfoldable pub inkWith : Ink → Cell → Ink
 inkWith ink c = cond (ink .blanks && not (isBlank c)) (record { blanks = false; colour = c .look .colour }) ink
 
+-- the packed look that the ink came from, with one more cell: a blank brings none
+unfoldable pub settledBy : ℕ → ℕ → ℕ → ℕ
+settledBy before p n = cond (eqb p 32) before n
+
 -- a cell joins a span, by the look of the span's first cell and its ink
 unfoldable pub joins : Look → Ink → Cell → Bool
 joins first ink c = sameGround (c .look) first && (isBlank c || (ink .blanks || eqb (c .look .colour) (ink .colour)))

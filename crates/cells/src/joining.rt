@@ -4,7 +4,7 @@ ghost use mathlib.Core.Path.{_≡_};
 ghost use Prim.Native.Nat.{_/_, _%_};
 ghost use Rattle.meaning.specs.Looks.{pack, unpack};
 ghost use Rattle.cells.specs.Arrays.{cellOf};
-ghost use Rattle.cells.specs.Inks.{inkWith, joins, inColour};
+ghost use Rattle.cells.specs.Inks.{inkWith, settledBy, joins, inColour};
 use crate::drawing::BLANK;
 use meaning::Look;
 
@@ -39,6 +39,20 @@ pub fn inked(ink: Ink, character: u16, look: u8) -> Ink
         }
     } else {
         ink
+    }
+}
+
+// The look of the cell that a span's ink came from, once there is one: before, a number that no look has.
+pub const NO_LOOK: u16 = 256;
+
+// That look after one more cell.
+pub fn settled(before: u16, character: u16, look: u8) -> u16
+    ensures { λ r. ⌜ r ≡ settledBy before character look ⌝ }
+{
+    if character == BLANK {
+        before
+    } else {
+        look as u16
     }
 }
 

@@ -200,6 +200,7 @@ pub fn shown_range(characters: &[u16], looks: &[u8], n: usize) -> Shown
     Shown { start, end }
 }
 
+// A cell of the look that the ink came from joins and changes nothing; most are such.
 fn span_from(characters: &[u16], looks: &[u8], start: usize, end: usize) -> SpanRead
     requires { ⌜ (start < end) × (end ≤ length (now characters)) × (end ≤ length (now looks)) ⌝ }
     ensures { λ r. ⌜ FirstSpan (now (characters .entry)) (now (looks .entry)) start end r ⌝ }
@@ -210,17 +211,21 @@ fn span_from(characters: &[u16], looks: &[u8], start: usize, end: usize) -> Span
         colour: Look::WHITE,
     };
     let mut ink = joining::inked(none, characters[start], first);
+    let mut known = joining::settled(joining::NO_LOOK, characters[start], first);
     let mut i = start + 1;
     while i < end {
-        let character = characters[i];
         let look = looks[i];
-        if !joining::is_joining(first, ink, character, look) {
-            return SpanRead {
-                end: i,
-                look: joining::in_colour(first, ink.colour),
-            };
+        if look as u16 != known {
+            let character = characters[i];
+            if !joining::is_joining(first, ink, character, look) {
+                return SpanRead {
+                    end: i,
+                    look: joining::in_colour(first, ink.colour),
+                };
+            }
+            ink = joining::inked(ink, character, look);
+            known = joining::settled(known, character, look);
         }
-        ink = joining::inked(ink, character, look);
         i += 1;
     }
     SpanRead {
