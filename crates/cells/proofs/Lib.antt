@@ -1,6 +1,5 @@
 pub mod Arrays
 pub mod Trimming
-pub mod Ground
 pub mod Growing
 pub mod Settled
 pub mod Spanning

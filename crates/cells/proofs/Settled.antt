@@ -1,20 +1,20 @@
 -- The look that a span's ink came from: a cell of that look joins the span, and the ink stays.
 -- Assumes nothing.
-use Prim.Native.Nat.{ℕ, _/_, _%_, _<_}
+use Prim.Native.Nat.{ℕ, _<_}
 use native.Mathlib.Omega.{arith}
 use mathlib.Core.Path.{_≡_, refl, ap, _∙_}
 use mathlib.Core.Bool.{Bool, true, false, cond, not, _&&_, _||_}
 use lib.Dec.{eqb}
 use borrow.Author.Tests.{eq-eqb}
 use Rattle.meaning.specs.declared.Look.{Look}
-use Rattle.meaning.specs.Looks.{unpack}
+use Rattle.meaning.specs.Looks.{unpack, packedGround}
 use Rattle.meaning.specs.Cells.{Cell, isBlank}
 use Rattle.meaning.specs.Spans.{sameGround}
+use Rattle.meaning.proofs.Grounds.{same-ground}
 use Rattle.meaning.proofs.Logic.{by-test, and-parts, and-true, or-true-right, or-second}
 use Rattle.cells.specs.declared.joining.Ink.{Ink}
 use Rattle.cells.specs.Arrays.{cellOf}
 use Rattle.cells.specs.Inks.{inkWith, settledBy, joins}
-use Rattle.cells.proofs.Ground.{same-ground}
 
 pub record Quiet (first : Look) (ink : Ink) (n : ℕ) : Type 0 where
   pub joining : (p : ℕ) → joins first ink (cellOf p n) ≡ true
@@ -72,4 +72,4 @@ quiet-here p n q k h =
 -- the first cell joins whatever it is
 pub first-joins : (p n : ℕ) → joins (unpack n) (record { blanks = true; colour = 7 }) (cellOf p n) ≡ true
 unfolding joins cellOf
-first-joins p n = and-true _ _ (same-ground n n ∙ eq-eqb (n / 8 % 16) (n / 8 % 16) refl) (or-true-right (isBlank (cellOf p n)) _ refl)
+first-joins p n = and-true _ _ (same-ground n n ∙ eq-eqb (packedGround n) (packedGround n) refl) (or-true-right (isBlank (cellOf p n)) _ refl)

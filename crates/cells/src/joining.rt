@@ -1,7 +1,6 @@
 // Which cells join a span, by the packed look of its first cell and by its ink.
 
 ghost use mathlib.Core.Path.{_≡_};
-ghost use Prim.Native.Nat.{_/_, _%_};
 ghost use Rattle.meaning.specs.Looks.{pack, unpack};
 ghost use Rattle.cells.specs.Arrays.{cellOf};
 ghost use Rattle.cells.specs.Inks.{inkWith, settledBy, joins, inColour};
@@ -14,19 +13,12 @@ pub struct Ink {
     pub colour: u8,
 }
 
-// A packed look without its colour: height and background.
-fn ground(look: u8) -> u8
-    ensures { λ r. ⌜ r ≡ look / 8 % 16 ⌝ }
-{
-    look / 8 % 16
-}
-
 // A blank joins whatever its colour, and every colour joins where there are only blanks.
 pub fn is_joining(first: u8, ink: Ink, character: u16, look: u8) -> bool
     ensures { λ r. ⌜ r ≡ joins (unpack first) ink (cellOf character look) ⌝ }
 {
-    (ground(look) == ground(first))
-        & ((character == BLANK) | (ink.blanks | (look % 8 == ink.colour)))
+    (Look::packed_ground(look) == Look::packed_ground(first))
+        & ((character == BLANK) | (ink.blanks | (Look::packed_colour(look) == ink.colour)))
 }
 
 pub fn inked(ink: Ink, character: u16, look: u8) -> Ink
@@ -35,7 +27,7 @@ pub fn inked(ink: Ink, character: u16, look: u8) -> Ink
     if ink.blanks & (character != BLANK) {
         Ink {
             blanks: false,
-            colour: look % 8,
+            colour: Look::packed_colour(look),
         }
     } else {
         ink

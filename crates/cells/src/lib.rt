@@ -149,7 +149,7 @@ pub fn decode_row(
 fn is_blank_on_black(character: u16, look: u8) -> bool
     ensures { λ r. ⌜ r ≡ isBlankOnBlack (cellOf character look) ⌝ }
 {
-    (character == BLANK) & (look / 8 % 8 == Look::BLACK)
+    (character == BLANK) & (Look::packed_background(look) == Look::BLACK)
 }
 
 // The first of n cells that is no blank on black, or n.

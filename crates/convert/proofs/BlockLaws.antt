@@ -9,7 +9,7 @@ use lib.Dec.{ltb, eqb}
 use lib.ListN.{length, take, drop, length-append}
 use lib.Seq.{take-at, length-take-le}
 use Rattle.meaning.specs.declared.Counts.{Counts}
-use borrow.Author.Tests.{ltb-true, eqb-true, ne-eqb}
+use borrow.Author.Tests.{ltb-true, eqb-true, ne-eqb, not-true, not-false}
 use Rattle.meaning.specs.Blocks.{sgn, sn, ebn, blockText, firstBlockRule}
 use Rattle.meaning.specs.Sets.{OpenSet, Progress, Outcome, firstBlock, furtherBlock, closeAtLast, opening, belongs, continuing}
 use Rattle.meaning.specs.Sets.Outcome.{refused, accepted}
@@ -36,24 +36,16 @@ wrote-joined {buf} {b1} {xs} {at} {r} w h =
 short : (file : List ℕ) (k : ℕ) → length (blockText (blockAt file k)) ≤ 112
 short file k = text-short (blockAt file k) (block-short file k)
 
-not-false : (b : Bool) → not b ≡ true → b ≡ false
-not-false true e = sym e
-not-false false e = refl
-
-pub not-true : (b : Bool) → not b ≡ false → b ≡ true
-not-true true e = refl
-not-true false e = sym e
-
 module _ (mode rate k : ℕ) (b : List ℕ) (p : Progress) {h : Header} (i : IsHeader b h) where
   pub opening-wrong : not (eqb (h .ebn) 0 || eqb (h .ebn) 255) ≡ true → opening mode rate k b p ≡ refused 7 k
   unfolding opening
   opening-wrong e =
-      let f : (eqb (ebn b) 0 || eqb (ebn b) 255) ≡ false = rw (← (i .ebn)) (not-false _ e) in
+      let f : (eqb (ebn b) 0 || eqb (ebn b) 255) ≡ false = rw (← (i .ebn)) (not-true _ e) in
       rw (f, opening)
 
   module _ (e : not (eqb (h .ebn) 0 || eqb (h .ebn) 255) ≡ false) {rule least : ℕ} (l : least ≡ p .least) (g : rule ≡ firstBlockRule rate least b) where
     right : (eqb (ebn b) 0 || eqb (ebn b) 255) ≡ true
-    right = rw (← (i .ebn)) (not-true _ e)
+    right = rw (← (i .ebn)) (not-false _ e)
 
     rule-is : firstBlockRule rate (p .least) b ≡ rule
     rule-is = sym (rw l at g)
@@ -92,14 +84,14 @@ opened-holds {file} {buf} {t} {out = out} {p = p} {o = o} {k = k} s i l w f keep
 module _ (mode k : ℕ) (b : List ℕ) (s : OpenSet) (p : Progress) {r : Bool} (e : r ≡ belongs s b) where
   pub continuing-wrong : not r ≡ true → continuing mode k b s p ≡ refused 7 k
   unfolding continuing
-  continuing-wrong z = rw (sym e ∙ not-false r z, continuing)
+  continuing-wrong z = rw (sym e ∙ not-true r z, continuing)
 
   pub continuing-good :
       not r ≡ false
       → continuing mode k b s p
       ≡ closeAtLast mode b (record { place = s .place; first = s .first; next = suc (s .next); text = s .text ++ blockText b }) (furtherBlock p)
   unfolding continuing
-  continuing-good z = rw (sym e ∙ not-true r z, continuing)
+  continuing-good z = rw (sym e ∙ not-false r z, continuing)
 
 pub continued-size :
     (file : List ℕ) (k : ℕ) {text text′ : List ℕ} {at size next : ℕ} → at ≤ 112 * next → next ≤ 240 → length text ≡ 26992

@@ -21,7 +21,8 @@ use Rattle.meaning.specs.Document.{Piece, Paragraph, Document, writeParagraph, 
 use Rattle.meaning.specs.Document.Piece.{span, br}
 use Rattle.meaning.specs.Conversion.{paragraphOf, documentOf, refusal, acceptance, answerTo, answer, bufferAfter, output}
 use Rattle.meaning.specs.Demands.{Bytes, FewestSpans}
-use Rattle.meaning.proofs.Logic.{by-test, by-number, false-not-true}
+use Rattle.meaning.proofs.Logic.{by-test, by-number, false-not-true, or-join}
+use Rattle.meaning.proofs.ListLaws.{any-cons}
 use Rattle.meaning.proofs.Demand3.{fewest-spans}
 use Rattle.meaning.proofs.Bounds.{document-bound, spans-bound}
 use Rattle.output.specs.Output.{past, Wrote}
@@ -71,17 +72,9 @@ pub laid-all : {buf : List ℕ} {t : Tally} {out : List ℕ} {n : ℕ} {w : Walk
 laid-all {buf} {t} {out} {n} {w} p e a = subst (λ (o : Outcome). Ends buf t out n w o) e (a .ends)
 
 -- a mark is set exactly if a span has its look
-any-cons : {A : Type 0} (p : A → Bool) (x : A) (xs : List A) → any p (x ∷ xs) ≡ (p x || any p xs)
-unfolding any
-any-cons p x xs = by-test (p x) (λ e. rw (e, any)) (λ e. rw (e, any))
-
 any-none : {A : Type 0} (p : A → Bool) → any p [] ≡ false
 unfolding any
 any-none p = refl
-
-or-join : (a b c : Bool) → ((a || b) || c) ≡ (a || (b || c))
-or-join true b c = refl
-or-join false b c = refl
 
 or-true : (a : Bool) → true ≡ (a || true)
 or-true true = refl

@@ -55,17 +55,6 @@ fn accepted(length: u64, counts: Counts, spans: u64) -> Answer
     }
 }
 
-// The sum; it stays at the largest number.
-fn plus(a: usize, b: usize) -> usize
-    ensures { λ r. ⌜ r ≡ past a b ⌝ }
-{
-    if b <= 18446744073709551615 - a {
-        a + b
-    } else {
-        18446744073709551615
-    }
-}
-
 // The first pass, over a buffer of no use.
 fn measure(file: &[u8], n: usize, mode: u64, rate: u64, text: &mut [u8]) -> Walk
     requires { ⌜ (n < 144115188075855872) × (length (now text) ≡ 26992) ⌝ }
@@ -86,7 +75,7 @@ fn length_of(rate: u8, marks: Marks, body: usize) -> usize
 {
     let mut none = [0u8; 1];
     let head = document::put_head(&mut none, 0, rate, marks);
-    plus(plus(head, body), 28)
+    document::put_tail(&mut none, output::after(head, body))
 }
 
 // The second pass, over a file that the first accepted: head, paragraphs, tail.

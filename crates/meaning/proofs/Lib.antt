@@ -18,3 +18,4 @@ pub mod OwnProfile
 pub mod Accepted
 pub mod Demand3
 pub mod Bounds
+pub mod Grounds

@@ -13,3 +13,7 @@ pack l = cond (l .double) 64 0 + 8 * l .background + l .colour
 
 unfoldable pub unpack : ℕ → Look
 unpack n = record { double = eqb (n / 64 % 2) 1; background = n / 8 % 8; colour = n % 8 }
+
+-- height and background of a packed look, as one number
+unfoldable pub packedGround : ℕ → ℕ
+packedGround n = n / 8 % 16

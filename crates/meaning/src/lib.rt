@@ -1,7 +1,7 @@
 // The types that the definitions in specs/ speak of, with the few functions that belong to a type.
 
 ghost use mathlib.Core.Path.{_≡_};
-ghost use Rattle.meaning.specs.Looks.{whiteOnBlack, pack, unpack};
+ghost use Rattle.meaning.specs.Looks.{whiteOnBlack, pack, unpack, packedGround};
 ghost use Rattle.meaning.specs.Rows.{linesOf};
 
 // What comes back from a conversion, in document 01's order.
@@ -59,6 +59,26 @@ impl Look {
     {
         let low = 8 * (self.background as usize) + self.colour as usize;
         if self.double { 64 + low } else { low }
+    }
+
+    // Parts of a packed look, for those who keep looks packed: height and background as one number; the background; the
+    // colour.
+    pub fn packed_ground(n: u8) -> u8
+        ensures { λ r. ⌜ r ≡ packedGround n ⌝ }
+    {
+        n / 8 % 16
+    }
+
+    pub fn packed_background(n: u8) -> u8
+        ensures { λ r. ⌜ r ≡ unpack n .background ⌝ }
+    {
+        n / 8 % 8
+    }
+
+    pub fn packed_colour(n: u8) -> u8
+        ensures { λ r. ⌜ r ≡ unpack n .colour ⌝ }
+    {
+        n % 8
     }
 
     pub fn unpack(n: usize) -> Look

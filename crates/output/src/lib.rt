@@ -11,8 +11,8 @@ ghost use Rattle.output.specs.Output.{Wrote, past};
 
 const LARGEST: usize = 18446744073709551615;
 
-// The position n past another; it stays at the largest number.
-fn after(at: usize, n: usize) -> usize
+// The position n past another; it stays at the largest number. Every length and count of bytes or spans is added up by it.
+pub fn after(at: usize, n: usize) -> usize
     ensures { λ r. ⌜ r ≡ past at n ⌝ }
 {
     if n <= LARGEST - at { at + n } else { LARGEST }

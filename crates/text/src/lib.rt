@@ -9,7 +9,7 @@ ghost use Rattle.meaning.specs.Document.{escaped};
 ghost use Rattle.meaning.specs.Document.Piece.{span, br};
 ghost use Rattle.meaning.specs.Conversion.{rowSpans, fillers};
 ghost use Rattle.cells.specs.Arrays.{cellsAt, cut};
-ghost use Rattle.output.specs.Output.{Wrote, past};
+ghost use Rattle.output.specs.Output.{Wrote};
 ghost use Rattle.text.specs.Laid.{Laid, RowDone, RowsDone, contentOf};
 use meaning::Lines;
 use meaning::Rows;
@@ -35,12 +35,6 @@ fn put_characters(out: &mut [u8], at: usize, characters: &[u16]) -> usize
     p
 }
 
-fn one_more(n: usize) -> usize
-    ensures { λ r. ⌜ r ≡ past n 1 ⌝ }
-{
-    if n < 18446744073709551615 { n + 1 } else { n }
-}
-
 fn put_span(out: &mut [u8], t: Tally, characters: &[u16], look: usize) -> Tally
     ensures { λ r. ⌜ Laid (now (out .entry)) t (span (record { look = look; characters = now (characters .entry) }) ∷ []) (now (out .exit)) r ⌝ }
 {
@@ -52,7 +46,7 @@ fn put_span(out: &mut [u8], t: Tally, characters: &[u16], look: usize) -> Tally
     let marks = t.marks;
     Tally {
         at: p,
-        spans: one_more(t.spans),
+        spans: output::after(t.spans, 1),
         marks: marks.marked(look),
     }
 }

@@ -33,8 +33,8 @@ slice-aggregate-put-3 c = search needs
 put-requires-3 : tie.Need-put-requires-3
 put-requires-3 c κs = search needs
 
-one-more-requires : tie.Need-one-more-requires
-one-more-requires c κs = search needs
+after-requires : tie.Need-after-requires
+after-requires c κs = search needs
 
 marked-requires : tie.Need-marked-requires
 marked-requires c κs = search needs
@@ -52,7 +52,7 @@ returns c =
     let c1 = c2 .before .before .before .before in
     record {
       wrote = wrote-as (append-nil _) (c1 .put .ensures ⨟ c2 .put-style-name .ensures ⨟ c3 .put2 .ensures ⨟ c4 .put-characters .ensures ⨟ c5 .put3 .ensures);
-      spans = c .before .one-more .ensures;
+      spans = c .before .after .ensures;
       marks = c .marked .ensures;
     }
 
@@ -68,7 +68,7 @@ put-span-spec =
     put-characters-requires
     slice-aggregate-put-3
     put-requires-3
-    one-more-requires
+    after-requires
     marked-requires
     same-length
     returns)

@@ -1,23 +1,33 @@
 -- `is_joining` tells whether a cell joins a span.
 -- Assumes nothing.
-use Rattle.meaning.specs.Looks.{unpack}
 use Rattle.meaning.specs.Cells.{isBlank}
+use Rattle.meaning.proofs.Grounds.{same-ground}
 use borrow.Author.Needs.{needs}
 use Rattle.cells.specs.Arrays.{cellOf}
 use Rattle.cells.specs.Inks.{joins}
 use Rattle.cells.proofs.joining.is_joining.Statement.{statement}
 use Rattle.cells.proofs.joining.is_joining.Tie as tie
-use Rattle.cells.proofs.Ground.{same-ground}
 
-ground-requires : tie.Need-ground-requires
-ground-requires c κs = search needs
+packed-ground-requires : tie.Need-packed-ground-requires
+packed-ground-requires c κs = search needs
 
-ground-requires-2 : tie.Need-ground-requires-2
-ground-requires-2 c κs = search needs
+packed-ground-requires-2 : tie.Need-packed-ground-requires-2
+packed-ground-requires-2 c κs = search needs
+
+packed-colour-requires : tie.Need-packed-colour-requires
+packed-colour-requires c κs = search needs
 
 returns : tie.Need-returns
-unfolding joins isBlank cellOf unpack
-returns c = rw (same-ground _ _, c .before .before .ground2 .ensures, c .before .before .before .ground .ensures)
+unfolding joins isBlank cellOf
+returns c =
+    rw (
+      same-ground _ _,
+      c .before .before .packed-colour .ensures,
+      c .before .before .before .packed-ground2 .ensures,
+      c .before .before .before .before .packed-ground .ensures,
+    )
 
 pub is-joining-spec : {M : Type 1} → statement M
-is-joining-spec = tie.close (tie.spec ground-requires ground-requires-2 returns)
+is-joining-spec =
+    tie.close
+    (tie.spec packed-ground-requires packed-ground-requires-2 packed-colour-requires returns)

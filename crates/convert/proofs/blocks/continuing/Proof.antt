@@ -3,7 +3,8 @@
 use native.Mathlib.Omega.{arith}
 use mathlib.Core.Path.{sym, _∙_}
 use borrow.Author.Needs.{needs}
-use Rattle.convert.proofs.BlockLaws.{not-true, continuing-wrong, continuing-good, continued-size, continued-holds, further-low, next-is}
+use borrow.Author.Tests.{not-false}
+use Rattle.convert.proofs.BlockLaws.{continuing-wrong, continuing-good, continued-size, continued-holds, further-low, next-is}
 use Rattle.convert.proofs.blocks.continuing.Statement.{statement}
 use Rattle.convert.proofs.blocks.continuing.Tie as tie
 
@@ -42,7 +43,7 @@ returns-2 c = λ buf t p s n i j o q k.
     let f = c .before .before .before .before .before .further-block .ensures in
     rw (continuing-good _ _ _ s p g (c .before .before .before .before .before .before .before .before .before .before .if1 .left))
     (c .before .before .close-at-last .ensures _ buf _ t _ _ _ (j .ebn)
-    (λ z. omega (arith, f .next (omega arith), next-is _ _ (c .before .before .before .before .before .before .before .before .before .before .before .before .before .before .before .args .w) q, further-low s _ (sym g ∙ not-true _ (c .before .before .before .before .before .before .before .before .before .before .if1 .left)) z)) i
+    (λ z. omega (arith, f .next (omega arith), next-is _ _ (c .before .before .before .before .before .before .before .before .before .before .before .before .before .before .before .args .w) q, further-low s _ (sym g ∙ not-false _ (c .before .before .before .before .before .before .before .before .before .before .if1 .left)) z)) i
     (continued-holds n (e .0) (e .1) (e .2) (c .before .before .before .before .before .before .before .before .put-text .ensures) f o q k))
 
 pub continuing-spec : {M : Type 1} → statement M

@@ -6,9 +6,9 @@ use mathlib.Core.Path.{_≡_, sym, _∙_}
 use mathlib.Core.Bool.{false, _&&_}
 use lib.Dec.{eqb}
 use borrow.Author.Tests.{eq-eqb, ne-eqb, eqb-true, eqb-false}
-use Rattle.meaning.specs.Looks.{unpack}
+use Rattle.meaning.specs.Looks.{unpack, packedGround}
 use Rattle.meaning.specs.Spans.{sameBit, sameGround}
 use Rattle.meaning.proofs.Logic.{by-test}
 
 -- heights a and b, each above a background of three bits
 module _ (a b x y : ℕ) where
@@ -30,8 +30,8 @@ module _ (a b x y : ℕ) where
       (λ p. by-test (eqb b 1) (λ q. rw (p, q) (other-height (λ z. eqb-false a 1 p (z ∙ eqb-true b 1 q)) hx hy))
       (λ q. rw (p, q) (same-height (omega (arith, eqb-false a 1 p, eqb-false b 1 q)))))
 
-pub same-ground : (n m : ℕ) → sameGround (unpack n) (unpack m) ≡ eqb (n / 8 % 16) (m / 8 % 16)
-unfolding sameGround unpack
+pub same-ground : (n m : ℕ) → sameGround (unpack n) (unpack m) ≡ eqb (packedGround n) (packedGround m)
+unfolding sameGround unpack packedGround
 same-ground n m =
     let p : n / 8 % 16 ≡ 8 * (n / 64 % 2) + n / 8 % 8 = omega arith in
     let q : m / 8 % 16 ≡ 8 * (m / 64 % 2) + m / 8 % 8 = omega arith in
