@@ -3,10 +3,10 @@
 
 mod gsi;
 mod rules;
-mod text;
+mod set_text;
 
 pub use gsi::block_count;
 pub use gsi::file_rule;
 pub use gsi::rate;
 pub use rules::first_block_rule;
-pub use text::put_text;
+pub use set_text::put_text;

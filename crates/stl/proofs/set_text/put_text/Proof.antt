@@ -3,8 +3,8 @@
 use mathlib.Core.Path.{sym}
 use borrow.Author.Needs.{needs}
 use Rattle.output.proofs.Laws.{wrote-as}
-use Rattle.stl.proofs.text.put_text.Statement.{statement}
-use Rattle.stl.proofs.text.put_text.Tie as tie
+use Rattle.stl.proofs.set_text.put_text.Statement.{statement}
+use Rattle.stl.proofs.set_text.put_text.Tie as tie
 
 text-at-requires : tie.Need-text-at-requires
 text-at-requires c κs = search needs
