@@ -22,13 +22,12 @@ use Rattle.meaning.proofs.ListLaws.{All}
 use Rattle.meaning.proofs.ListLaws.All.{cons}
 use Rattle.meaning.proofs.CellFacts.{ThreeBits, Sound, rows-sound, pack-small}
 use Rattle.charset.specs.declared.Reading.{Reading}
-use Rattle.charset.proofs.Laws.{ReadOn, tokens-end}
+use Rattle.charset.proofs.Laws.{ReadOn, tokens-end, RunOn}
 use Rattle.output.specs.Output.{stored}
 use Rattle.rows.specs.FirstRow.{firstRow, afterRow, isEnded}
 use Rattle.rows.proofs.Laws.{first-end, after-end, ended-end, first-more, after-more, ended-more, first-none, after-none, ended-none, rows-are, rows-first}
 use Rattle.cells.specs.Arrays.{character, packedLook}
 use Rattle.cells.specs.Decoded.{tokensFrom, rowAt, Decoded}
-use Rattle.cells.proofs.Running.{RunOn}
 
 first-of : {A : Type 0} {P : A → Type 0} {x : A} {xs : List A} → All P (x ∷ xs) → P x
 first-of (cons p h) = p

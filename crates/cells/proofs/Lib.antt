@@ -4,7 +4,6 @@ pub mod Growing
 pub mod Settled
 pub mod Spanning
 pub mod Storing
-pub mod Running
 pub mod Decoding
 pub mod ReadBack
 pub mod Laws

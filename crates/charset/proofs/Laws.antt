@@ -1,6 +1,6 @@
 -- A text is read position by position: its tokens from a position on are the one there, and those from the next on.
 -- Assumes nothing.
-use Prim.Native.Nat.{ℕ, _+_, _≤_, _<_}
+use Prim.Native.Nat.{ℕ, _+_, _-_, _≤_, _<_}
 use native.Mathlib.Omega.{arith}
 use native.Mathlib.Numerals.{add-one}
 use mathlib.Core.Path.{_≡_, refl, ap}
@@ -8,7 +8,7 @@ use mathlib.Core.Bool.{Bool, true, false, _&&_, and-eq-true-iff}
 use mathlib.Core.List.{List, [], _∷_, map, _++_}
 use mathlib.Core.Logic.{_⊎_, inl, inr, ⊎-map}
 use lib.Dec.{ltb}
-use lib.ListN.{length, getD, drop, drop-of-length-le}
+use lib.ListN.{length, getD, take, drop, drop-of-length-le}
 use lib.Seq.{drop-cons, drop-drop}
 use borrow.Author.Tests.{lt-ltb, lt-leb, ltb-true, ltb-false}
 use Rattle.meaning.specs.declared.Token.the-variants.{Character}
@@ -20,7 +20,7 @@ use Rattle.charset.specs.declared.Reading.{Reading}
 use Rattle.charset.specs.Reading.{isPairAt, readingAt}
 use Rattle.charset.specs.Plain.{isPlain, plainRun, plainEnd}
 use Rattle.charset.proofs.Codes.{plain-range, plain-token}
-use Rattle.charset.proofs.Runs.{run-goes-on, run-ends}
+use Rattle.charset.proofs.Runs.{run-goes-on, run-ends, run-within}
 
 -- a code that is no accent, or has none after it
 first-single : (c : ℕ) (cs : List ℕ) → isAccent c ≡ false → tokens (c ∷ cs) ≡ codeToken c ∷ tokens cs
@@ -114,7 +114,28 @@ tokens-run (c ∷ cs) =
     (ap (λ ts. Character c ∷ ts) (tokens-run cs)))
     (λ p. rw (run-ends c cs p))
 
--- The law for loops that pass over runs: the tokens from i on are the run's characters, and those from its end on.
+-- the tokens from i on are the run's characters, and those from its end on
 pub run-at : (s : List ℕ) (i : ℕ) → tokens (drop i s) ≡ map Character (plainRun (drop i s)) ++ tokens (drop (plainEnd s i) s)
 unfolding plainEnd
 run-at s i = rw drop-drop at (tokens-run (drop i s))
+
+take-run : (s : List ℕ) → take (length (plainRun s)) s ≡ plainRun s
+unfolding plainRun
+take-run [] = refl
+take-run (c ∷ cs) =
+    by-test (isPlain c)
+    (λ p. rw (run-goes-on c cs p) (ap (λ (xs : List ℕ). c ∷ xs) (take-run cs)))
+    (λ p. rw (run-ends c cs p))
+
+-- the codes of a text s from i up to e are a run: the tokens from i on are its characters, and those from e on
+pub record RunOn (s : List ℕ) (i e : ℕ) : Type 0 where
+  pub first : tokens (drop i s) ≡ map Character (take (e - i) (drop i s)) ++ tokens (drop e s)
+  pub on : i ≤ e
+  pub within : e ≤ length s
+
+-- The law for loops that pass over runs, of the result e of a call of `plain_end`.
+pub run-on : {s : List ℕ} {i e : ℕ} → e ≡ plainEnd s i → i ≤ length s → RunOn s i e
+unfolding plainEnd
+run-on {s} {i} p h =
+    let size : plainEnd s i - i ≡ length (plainRun (drop i s)) = omega arith in
+    rw p (record { first = rw (size, take-run (drop i s)) (run-at s i); on = omega arith; within = run-within s i h })

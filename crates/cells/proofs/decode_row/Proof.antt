@@ -4,12 +4,11 @@ use Prim.Native.Nat.{_-_}
 use native.Mathlib.Omega.{arith}
 use mathlib.Core.Path.{sym, _∙_}
 use lib.ListN.{length}
-use Rattle.charset.proofs.Laws.{read-on}
+use Rattle.charset.proofs.Laws.{read-on, run-on}
 use borrow.Author.Needs.{needs}
 use Rattle.cells.proofs.decode_row.Statement.{statement}
 use Rattle.cells.proofs.decode_row.Tie as tie
 use Rattle.cells.proofs.Decoding.{Ahead, ahead-all, small-here, small-after, ahead-more, ahead-run, ahead-row-end, ahead-text-end}
-use Rattle.cells.proofs.Running.{run-on}
 
 abbrev Inv-loop : tie.InvT-loop
 Inv-loop text start double characters₀ looks₀ look₀ i₀ n₀ characters looks look i n = Ahead text start double characters₀ looks₀ characters looks look i n
