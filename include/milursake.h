@@ -1,4 +1,4 @@
-/* The proved converter from EBU STL to EBU-TT, for callers in C. Link libconvert.a. */
+/* The proved converter from EBU STL to EBU-TT, for callers in C. Link libmilursake.a. */
 #ifndef MILURSAKE_H
 #define MILURSAKE_H
 

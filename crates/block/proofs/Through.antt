@@ -1,6 +1,6 @@
--- The walk of every function with plain parameters that makes a `Block` and asks it:
---     pub fn f(file: &[u8], k: usize) -> R { g(block_at(file, k)) }
--- for any g that `Take` proves: f promises of the bytes of block k what g promises of its block's bytes.
+-- The walk of every function of a plain slice that makes a `Block` of it and asks it:
+--     pub fn f(bytes: &[u8]) -> R { g(block_of(bytes)) }
+-- for any g that `Take` proves: f promises of the slice what g promises of its block's bytes.
 -- In a local of a body MIR erases the lifetime of the struct's type, so the value is shown to have the type at `erased`.
 -- Assumes nothing.
 use mathlib.Core.Path.{_≡_, refl, subst}
@@ -28,36 +28,36 @@ use denote.Triple.Table.{cited}
 use Rattle.block.specs.declared.Block.{Block}
 use Rattle.block.proofs.Block as T
 use Rattle.block.proofs.Block.Laws as T′
-use Rattle.block.proofs.block_at.Symbol as block-at
-use Rattle.block.proofs.block_at.Met as block-at-thm
-use Rattle.block.proofs.Walks.{B, Typed, Fact, of-block, of-file, Viewed, block-param, file-params, owned, token, entry, Promise, calls-told, Walked, met-by, calling, begins, ends}
+use Rattle.block.proofs.block_of.Symbol as block-of
+use Rattle.block.proofs.block_of.Met as block-of-thm
+use Rattle.block.proofs.Walks.{B, Typed, Fact, of-slice, of-block, Viewed, block-param, slice-param, owned, token, entry, Promise, calls-told, Walked, met-by, calling, begins, ends}
 
 abbrev pub function : Ty → Name → Fn
-function τ G = calling τ (T′.mir erased) block-at.name (seq (call G (copy (place 3 []) ∷ []) (place 0 [])) return)
+function τ G = calling τ (T′.mir erased) block-of.name (seq (call G (copy (place 2 []) ∷ []) (place 0 [])) return)
 
 module _ (slot : Slot 1) (φ : Fact slot) (τ : Ty) (typed : Typed slot τ) (G : Name) {M : Type 1} (𝓤 : URA M) (H : Heap 𝓤) where
   -- what the view and the token are to g
   enters : (A : Atoms 𝓤) (W : Given 𝓤 H A) (κ : Lft) (q : Share) (b : Block) (u : Val) → ent 𝓤 (⋆ 𝓤 H A (owned (plain B) κ b u ∷ token κ q ∷ [])) (mean 𝓤 H A (entry block-param κ q (b, tt) (u ∷ [], tt)))
   enters A W κ q b u = qed W (owned (plain B) κ b u ∷ token κ q ∷ []) ∵ move ! (1 ∷ []) $ frame ! $ nothing ! $ move ! (1 ∷ 0 ∷ []) $ fjoin ! $ done !
 
-  walk : (A : Atoms 𝓤) (W : Given 𝓤 H A) (C : Calls 𝓤 H) (Λ : Loops 𝓤 H) → FmC 𝓤 H (W .laws) C → Triple 𝓤 (C block-at.name) (Promise file-params (plain B) Viewed 𝓤 H A) → Triple 𝓤 (C G) (Promise block-param slot (of-block slot φ) 𝓤 H A)
-      → Walked file-params slot (of-file slot φ) 𝓤 H A C Λ (function τ G)
+  walk : (A : Atoms 𝓤) (W : Given 𝓤 H A) (C : Calls 𝓤 H) (Λ : Loops 𝓤 H) → FmC 𝓤 H (W .laws) C → Triple 𝓤 (C block-of.name) (Promise slice-param (plain B) Viewed 𝓤 H A) → Triple 𝓤 (C G) (Promise block-param slot (of-block slot φ) 𝓤 H A)
+      → Walked slice-param slot (of-slice slot φ) 𝓤 H A C Λ (function τ G)
   walk A W C Λ fm known known-G κ q a are =
       let αᵉ : NamedLft = record { mir = erased; lft = κ } in
-      begins τ (T′.mir erased) H slot (of-file slot φ) A κ q a W C Λ fm block-at.name (plain B) Viewed known _ are (λ l₀ l₁ l₂ l₃ u b e is.
-      -- [what the view owns; the token; room for _3; …; _2; …; _1; …; room for _0; …]
+      begins τ (T′.mir erased) H slot (of-slice slot φ) A κ q a W C Λ fm block-of.name (plain B) Viewed known _ are (λ l₀ l₁ l₂ u b e is.
+      -- [what the view owns; the token; room for _2; …; _1; …; room for _0; …]
       land ! (from ! (stop !)) (init ! 2 refl (LL.lawful (T.the-type αᵉ) (T′.the-laws αᵉ) 𝓤 H A W .typed b _ is .0)) $
       use2 W (entry block-param κ q (b, tt) (u ∷ [], tt)) (enters A W κ q b u) $
       calls-told ! fm block-param slot (of-block slot φ) known-G κ q (b, tt) (u ∷ [], tt) (and-then ! (load ! (from ! (stop !)) (look ! 1 refl)) (no-more !)) (λ u′ r e′ is′.
-      -- [what the result owns; the token; _3; …; _2; …; _1; …; room for _0; …]
-      land ! (from ! (stop !)) (init ! 8 refl (typed (κ, tt) r u′ is′)) $
-      ends τ (T′.mir erased) H slot (of-file slot φ) A κ q a r (subst (λ (l : List ℕ). φ (κ, tt) l r) e e′)))
+      -- [what the result owns; the token; _2; …; _1; …; room for _0; …]
+      land ! (from ! (stop !)) (init ! 6 refl (typed (κ, tt) r u′ is′)) $
+      ends τ (T′.mir erased) H slot (of-slice slot φ) A κ q a r (subst (λ (l : List ℕ). φ (κ, tt) l r) e e′)))
 
   -- F is f's key, γ what its MIR's calls mean, and ρ g's routine
   pub through-spec : (𝓜 : Model 𝓤 H) (𝓖 : GhostRules 𝓤 H) (𝓡 : Running 𝓤 H 𝓜) (F : Name) (γ : Env) → Closed 𝓤 H (tables 𝓤 H 𝓜 𝓡 γ .C) (tables 𝓤 H 𝓜 𝓡 γ .Λ) F (function τ G)
-      → γ block-at.name ≡ block-at.routine → (ρ : Routine) → γ G ≡ ρ → Triple 𝓤 (𝓡 .run ρ) (Promise block-param slot (of-block slot φ) 𝓤 H (𝓖 .A)) → Triple 𝓤 (𝓡 .run (γ F)) (Promise file-params slot (of-file slot φ) 𝓤 H (𝓖 .A))
+      → γ block-of.name ≡ block-of.routine → (ρ : Routine) → γ G ≡ ρ → Triple 𝓤 (𝓡 .run ρ) (Promise block-param slot (of-block slot φ) 𝓤 H (𝓖 .A)) → Triple 𝓤 (𝓡 .run (γ F)) (Promise slice-param slot (of-slice slot φ) 𝓤 H (𝓖 .A))
   through-spec 𝓜 𝓖 𝓡 F γ closed at-view ρ at-G met =
-      met-by file-params slot (of-file slot φ) 𝓤 H 𝓜 𝓖 𝓡 F γ (function τ G) closed
+      met-by slice-param slot (of-slice slot φ) 𝓤 H 𝓜 𝓖 𝓡 F γ (function τ G) closed
       (λ fm. walk (𝓖 .A) (givenOf 𝓤 H 𝓜 𝓖) (tables 𝓤 H 𝓜 𝓡 γ .C) (tables 𝓤 H 𝓜 𝓡 γ .Λ) fm
-      (cited 𝓤 H (Promise file-params (plain B) Viewed 𝓤 H (𝓖 .A)) 𝓜 𝓡 γ block-at.name block-at.routine at-view (block-at-thm.met 𝓤 H 𝓜 𝓖 𝓡))
+      (cited 𝓤 H (Promise slice-param (plain B) Viewed 𝓤 H (𝓖 .A)) 𝓜 𝓡 γ block-of.name block-of.routine at-view (block-of-thm.met 𝓤 H 𝓜 𝓖 𝓡))
       (cited 𝓤 H (Promise block-param slot (of-block slot φ) 𝓤 H (𝓖 .A)) 𝓜 𝓡 γ G ρ at-G met))

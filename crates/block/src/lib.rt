@@ -2,51 +2,30 @@
 // it is proved by hand and does one thing; the work on plain slices stands in `parts` and `read`.
 
 ghost use mathlib.Core.Path.{_≡_};
-ghost use Rattle.meaning.specs.Blocks.{blockText};
-ghost use Rattle.block.specs.BlockAt.{blockAt};
-ghost use Rattle.block.specs.IsHeader.{IsHeader};
+ghost use Rattle.meaning.specs.Blocks.{headerOf, blockText};
+use meaning::Header;
 
 mod parts;
 mod read;
 
+pub use parts::bytes_at;
 pub use parts::field;
 
-pub struct Time {
-    pub hours: u8,
-    pub minutes: u8,
-    pub seconds: u8,
-    pub frames: u8,
-}
-
-pub struct Header {
-    pub sgn: u8,
-    pub sn: u16,
-    pub ebn: u8,
-    pub cs: u8,
-    pub tci: Time,
-    pub tco: Time,
-    pub vp: u8,
-    pub jc: u8,
-    pub cf: u8,
-}
-
-// One block of a file: 128 bytes, or fewer where the file ends.
+// One block: 128 bytes, or fewer where the file ends.
 pub struct Block<'a> {
     pub bytes: &'a [u8],
 }
 
-pub fn block_at<'a>(file: &'a [u8], k: usize) -> Block<'a>
-    ensures { λ r. ⌜ now (r .bytes) ≡ blockAt (now (file .entry)) k ⌝ }
+pub fn block_of<'a>(bytes: &'a [u8]) -> Block<'a>
+    ensures { λ r. ⌜ now (r .bytes) ≡ now (bytes .entry) ⌝ }
 {
-    Block {
-        bytes: parts::bytes_at(file, k),
-    }
+    Block { bytes }
 }
 
 impl<'a> Block<'a> {
     // Bytes past the block's end read as 0.
     pub fn header(self) -> Header
-        ensures { λ r. ⌜ IsHeader (now (self .entry .bytes)) r ⌝ }
+        ensures { λ r. ⌜ r ≡ headerOf (now (self .entry .bytes)) ⌝ }
     {
         read::header_in(self.bytes)
     }
@@ -58,16 +37,16 @@ impl<'a> Block<'a> {
     }
 }
 
-// The header of block k. A caller of this has plain parameters, and needs no proof by hand.
-pub fn header_at(file: &[u8], k: usize) -> Header
-    ensures { λ r. ⌜ IsHeader (blockAt (now (file .entry)) k) r ⌝ }
+// The header of a block's bytes. A caller of this has a plain slice, and needs no proof by hand.
+pub fn header_of(bytes: &[u8]) -> Header
+    ensures { λ r. ⌜ r ≡ headerOf (now (bytes .entry)) ⌝ }
 {
-    block_at(file, k).header()
+    block_of(bytes).header()
 }
 
-// The text of block k, as a part of the file.
-pub fn text_at(file: &[u8], k: usize) -> &[u8]
-    ensures { λ r. ⌜ now r ≡ blockText (blockAt (now (file .entry)) k) ⌝ }
+// The text of a block's bytes, as a part of them.
+pub fn text_of(bytes: &[u8]) -> &[u8]
+    ensures { λ r. ⌜ now r ≡ blockText (now (bytes .entry)) ⌝ }
 {
-    block_at(file, k).text()
+    block_of(bytes).text()
 }

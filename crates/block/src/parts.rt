@@ -4,7 +4,7 @@ ghost use mathlib.Core.Path.{_≡_};
 ghost use Prim.Native.Nat.{_+_, _*_, min};
 ghost use lib.ListN.{drop};
 ghost use Rattle.meaning.specs.Gsi.{field};
-ghost use Rattle.block.specs.BlockAt.{blockAt};
+ghost use Rattle.meaning.specs.Blocks.{blockAt};
 
 // Where a block starts, at most the file's end: no place is too large to multiply.
 fn start_of(size: usize, k: usize) -> usize
@@ -40,7 +40,8 @@ pub fn field(s: &[u8], from: usize, n: usize) -> &[u8]
     &all[..n]
 }
 
-pub(crate) fn bytes_at(file: &[u8], k: usize) -> &[u8]
+// The bytes of block k.
+pub fn bytes_at(file: &[u8], k: usize) -> &[u8]
     ensures { λ r. ⌜ now r ≡ blockAt (now (file .entry)) k ⌝ }
 {
     field(file, start_of(file.len(), k), 128)

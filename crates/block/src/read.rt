@@ -3,12 +3,11 @@
 ghost use mathlib.Core.Path.{_≡_};
 ghost use Prim.Native.Nat.{_+_, _*_, _≤_};
 ghost use lib.ListN.{length};
-ghost use Rattle.meaning.specs.Blocks.{timeAt, beforeEnd, blockText};
-ghost use Rattle.block.specs.IsHeader.{timeOf, IsHeader};
-use crate::Header;
-use crate::Time;
+ghost use Rattle.meaning.specs.Blocks.{timeAt, headerOf, beforeEnd, blockText};
 use crate::parts::field;
 use crate::parts::rest;
+use meaning::Header;
+use meaning::Time;
 
 // The low byte comes first.
 fn number(low: u8, high: u8) -> u16
@@ -19,7 +18,7 @@ fn number(low: u8, high: u8) -> u16
 
 fn time_at(b: &[u8], i: usize) -> Time
     requires { ⌜ i + 4 ≤ length (now b) ⌝ }
-    ensures { λ r. ⌜ timeOf r ≡ timeAt i (now (b .entry)) ⌝ }
+    ensures { λ r. ⌜ r ≡ timeAt i (now (b .entry)) ⌝ }
 {
     Time {
         hours: b[i],
@@ -31,7 +30,7 @@ fn time_at(b: &[u8], i: usize) -> Time
 
 fn header_of(b: &[u8]) -> Header
     requires { ⌜ 16 ≤ length (now b) ⌝ }
-    ensures { λ r. ⌜ IsHeader (now (b .entry)) r ⌝ }
+    ensures { λ r. ⌜ r ≡ headerOf (now (b .entry)) ⌝ }
 {
     Header {
         sgn: b[0],
@@ -48,7 +47,7 @@ fn header_of(b: &[u8]) -> Header
 
 // Bytes past the block's end read as 0.
 pub(crate) fn header_in(b: &[u8]) -> Header
-    ensures { λ r. ⌜ IsHeader (now (b .entry)) r ⌝ }
+    ensures { λ r. ⌜ r ≡ headerOf (now (b .entry)) ⌝ }
 {
     if 16 <= b.len() {
         return header_of(b);
@@ -72,6 +71,7 @@ fn length_before_end(text: &[u8]) -> usize
     i
 }
 
+// The bytes before the first 8Fh of the text field.
 pub(crate) fn text_in(b: &[u8]) -> &[u8]
     ensures { λ r. ⌜ now r ≡ blockText (now (b .entry)) ⌝ }
 {

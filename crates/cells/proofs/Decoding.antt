@@ -1,224 +1,227 @@
 -- A row decoded token by token: what the arrays hold so far, and what is still to come.
 -- Assumes nothing.
-use Prim.Native.Nat.{ℕ, suc, _+_, _-_, _≤_, _<_}
-use native.Mathlib.Nat.{add-zero}
+use Prim.Native.Nat.{ℕ, _+_, _-_, _≤_}
 use native.Mathlib.Omega.{arith}
-use native.Mathlib.Numerals.{add-one}
-use mathlib.Core.Path.{_≡_, refl, sym, _∙_}
-use mathlib.Core.Bool.{Bool, true, false}
+use mathlib.Core.Path.{_≡_, refl, sym, ap, _∙_}
+use mathlib.Core.Bool.{true, false}
 use mathlib.Core.List.{List, [], _∷_, _++_, map}
-use lib.Dec.{ltb}
-use lib.ListN.{length, set, take, drop, replicate, length-set, length-take, length-drop}
-use borrow.Author.Tests.{ltb-true}
+use lib.ListN.{length, take, drop, replicate, length-map, length-append, length-take, length-drop}
 use Rattle.meaning.specs.declared.Token.{Token}
 use Rattle.meaning.specs.declared.Token.the-variants.{Character, Control, RowEnd, Unlisted}
-use Rattle.meaning.specs.declared.Look.{Look}
-use Rattle.meaning.specs.Codes.{isRowEnd}
+use Rattle.meaning.specs.declared.Pen.{Pen}
+use Rattle.meaning.specs.Codes.{isRowEnd, takesCell}
 use Rattle.meaning.specs.Rows.{breaksPaired}
-use Rattle.meaning.specs.Looks.{whiteOnBlack, pack}
-use Rattle.meaning.specs.Cells.{Cell, cellCharacter, controlHere, controlNext, lookHere, lookNext, cellsFrom, cells}
-use Rattle.meaning.proofs.Logic.{by-test, false-not-true}
+use Rattle.meaning.specs.Looks.{pack}
+use Rattle.meaning.specs.Cells.{Cell, cellCharacter, lookHere, lookNext, cellOf, penAfter, cellsOf, cellsFrom, penEnd, rowStart, cellRows}
+use Rattle.meaning.proofs.Logic.{by-test}
 use Rattle.meaning.proofs.ListLaws.{All}
 use Rattle.meaning.proofs.ListLaws.All.{cons}
-use Rattle.meaning.proofs.CellFacts.{ThreeBits, Sound, rows-sound, pack-small}
+use Rattle.meaning.proofs.CellFacts.{Sound, rows-sound}
 use Rattle.charset.specs.declared.Reading.{Reading}
+use Rattle.charset.specs.Reading.{afterRowAt}
+use Rattle.charset.proofs.Positions.{row-over}
 use Rattle.charset.proofs.Laws.{ReadOn, tokens-end, RunOn}
 use Rattle.output.specs.Output.{stored}
-use Rattle.rows.specs.FirstRow.{firstRow, afterRow, isEnded}
-use Rattle.rows.proofs.Laws.{first-end, after-end, ended-end, first-more, after-more, ended-more, first-none, after-none, ended-none, rows-are, rows-first}
+use Rattle.output.proofs.Laws.{length-stored, stored-append}
+use Rattle.rows.specs.FirstRow.{firstRow, isEnded}
+use Rattle.rows.proofs.Laws.{first-end, ended-end, first-more, ended-more, first-run, ended-run, first-none, ended-none, rows-are, rows-first}
+use Rattle.rows.proofs.RowEnds.{row-end, row-more}
+use Rattle.cells.specs.declared.RowRead.{RowRead}
 use Rattle.cells.specs.Arrays.{character, packedLook}
-use Rattle.cells.specs.Decoded.{tokensFrom, rowAt, Decoded}
+use Rattle.cells.specs.Decoded.{tokensFrom, rowAt, runCell, runCells, Decoded}
 
 first-of : {A : Type 0} {P : A → Type 0} {x : A} {xs : List A} → All P (x ∷ xs) → P x
 first-of (cons p h) = p
 
-others-of : {A : Type 0} {P : A → Type 0} {x : A} {xs : List A} → All P (x ∷ xs) → All P xs
-others-of (cons p h) = h
+map-append : {A B : Type 0} (f : A → B) (xs ys : List A) → map f (xs ++ ys) ≡ map f xs ++ map f ys
+map-append f [] ys = refl
+map-append {B = B} f (x ∷ xs) ys = ap (λ (l : List B). f x ∷ l) (map-append f xs ys)
 
 -- the cells of a row have looks of three bits each
-pub row-sound : (text : List ℕ) (start : ℕ) (double : Bool) → All Sound (rowAt text start double)
-unfolding rowAt
-row-sound text start double =
+pub row-sound : (text : List ℕ) (start : ℕ) (pen : Pen) → All Sound (rowAt text start pen)
+unfolding rowAt cellRows
+row-sound text start pen =
     let ts = tokensFrom text start in
-    first-of (rw (rows-are 1 ts, rows-first (breaksPaired 1 ts) ts) at (rows-sound 1 double (drop start text)))
+    first-of (rw (rows-are 1 ts, rows-first (breaksPaired 1 ts) ts) at (rows-sound 1 pen (drop start text)))
+
+-- every token takes a cell
+pub takes-cell : (t : Token) → takesCell t ≡ true
+unfolding takesCell
+takes-cell (Character p) = refl
+takes-cell (Control c) = refl
+takes-cell RowEnd = refl
+takes-cell Unlisted = refl
+
+pub cells-one : (t : Token) (pen : Pen) → length (cellsOf t pen) ≤ 1
+unfolding cellsOf
+cells-one t pen = by-test (takesCell t) (λ e. rw e (omega arith)) (λ e. rw e (omega arith))
+
+-- the cells of a run are its codes, in the pen's look
+pub run-characters : (pen : Pen) (cs : List ℕ) → map character (runCells pen cs) ≡ cs
+unfolding runCells runCell cellOf character cellCharacter
+run-characters pen [] = refl
+run-characters pen (c ∷ cs) = ap (λ (l : List ℕ). c ∷ l) (run-characters pen cs)
+
+pub run-looks : (pen : Pen) (cs : List ℕ) → map packedLook (runCells pen cs) ≡ replicate (length cs) (pack (pen .look))
+unfolding runCells runCell cellOf packedLook lookHere
+run-looks pen [] = refl
+run-looks pen (c ∷ cs) = ap (λ (l : List ℕ). pack (pen .look) ∷ l) (run-looks pen cs)
+
+-- characters leave the pen as it is
+run-from : (pen : Pen) (cs : List ℕ) (ts : List Token) → cellsFrom pen (map Character cs ++ ts) ≡ runCells pen cs ++ cellsFrom pen ts
+unfolding runCells runCell cellsFrom cellsOf takesCell penAfter lookNext
+run-from pen [] ts = refl
+run-from pen (c ∷ cs) ts = ap (λ (l : List Cell). cellOf (Character c) pen ∷ l) (run-from pen cs ts)
+
+run-end : (pen : Pen) (cs : List ℕ) (ts : List Token) → penEnd pen (map Character cs ++ ts) ≡ penEnd pen ts
+unfolding penEnd penAfter lookNext
+run-end pen [] ts = refl
+run-end pen (c ∷ cs) ts = run-end pen cs ts
 
 -- storing the rest of the cells gives what storing all gives
 pub record Left (characters₀ looks₀ : List ℕ) (whole : List Cell) (characters looks : List ℕ) (n : ℕ) (rest : List Cell) : Type 0 where
   pub on-characters : stored characters n (map character rest) ≡ stored characters₀ 0 (map character whole)
   pub on-looks : stored looks n (map packedLook rest) ≡ stored looks₀ 0 (map packedLook whole)
   pub count : n + length rest ≡ length whole
-  pub sound : All Sound rest
   pub same-characters : length characters ≡ length characters₀
   pub same-looks : length looks ≡ length looks₀
 
-left-more : {characters₀ looks₀ characters looks characters′ looks′ : List ℕ} {whole rest : List Cell} {c : Cell} {n : ℕ}
-    → Left characters₀ looks₀ whole characters looks n (c ∷ rest)
-    → characters′ ≡ set characters n (c .character) → looks′ ≡ set looks n (pack (c .look))
-    → Left characters₀ looks₀ whole characters′ looks′ (n + 1) rest
-unfolding stored character packedLook
-left-more a p q =
-    rw (p, q)
+-- values stored first, and then others
+stored-then : (f : Cell → ℕ) (array : List ℕ) (n : ℕ) (cs rest : List Cell) → stored (stored array n (map f cs)) (n + length cs) (map f rest) ≡ stored array n (map f (cs ++ rest))
+stored-then f array n cs rest =
+    rw (map-append f cs rest, stored-append array n (map f cs) (map f rest), length-map cs f)
+
+left-more : {characters₀ looks₀ characters looks characters′ looks′ : List ℕ} {whole : List Cell} {n m : ℕ} (cs rest : List Cell)
+    → Left characters₀ looks₀ whole characters looks n (cs ++ rest)
+    → characters′ ≡ stored characters n (map character cs) → looks′ ≡ stored looks n (map packedLook cs) → m ≡ n + length cs
+    → Left characters₀ looks₀ whole characters′ looks′ m rest
+left-more {characters = characters} {looks} {n = n} cs rest a p q e =
+    rw (p, q, e)
     (record {
-      on-characters = rw add-one (a .on-characters);
-      on-looks = rw add-one (a .on-looks);
-      count = omega (arith, a .count);
-      sound = others-of (a .sound);
-      same-characters = simp length-set (a .same-characters);
-      same-looks = simp length-set (a .same-looks);
+      on-characters = stored-then character characters n cs rest ∙ a .on-characters;
+      on-looks = stored-then packedLook looks n cs rest ∙ a .on-looks;
+      count = omega (arith, a .count, length-append cs rest);
+      same-characters = length-stored characters n (map character cs) ∙ a .same-characters;
+      same-looks = length-stored looks n (map packedLook cs) ∙ a .same-looks;
     })
 
 -- the tokens still to come of a row, after n cells
-pub record Coming (all : List Token) (whole : List Cell) (characters₀ looks₀ characters looks : List ℕ) (look : Look) (ts : List Token) (n : ℕ) : Type 0 where
-  pub left : Left characters₀ looks₀ whole characters looks n (cellsFrom look (firstRow ts))
+pub record Coming (all : List Token) (whole : List Cell) (last : Pen) (characters₀ looks₀ characters looks : List ℕ) (pen : Pen) (ts : List Token) (n : ℕ) : Type 0 where
+  pub left : Left characters₀ looks₀ whole characters looks n (cellsFrom pen (firstRow ts))
   pub ended : isEnded ts ≡ isEnded all
-  pub rest : afterRow ts ≡ afterRow all
+  pub after : penEnd pen (firstRow ts) ≡ last
 
--- the look after a cell is made of that cell's
-next-bits : (t : Token) (l : Look) → ThreeBits (lookHere t l) → ThreeBits (lookNext t l)
-unfolding lookHere lookNext controlHere controlNext
-next-bits (Character p) l h = h
-next-bits (Control c) l h =
-    record {
-      background = h .background;
-      colour = by-test (ltb c 8) (λ e. rw e (ltb-true c 8 e)) (λ e. rw e (h .colour));
-    }
-next-bits RowEnd l h = h
-next-bits Unlisted l h = h
-
--- a token of the row
 module _
-    {all ts : List Token} {whole : List Cell} {characters₀ looks₀ characters looks : List ℕ} {look : Look} {t : Token} {n : ℕ}
-    (a : Coming all whole characters₀ looks₀ characters looks look (t ∷ ts) n) (e : isRowEnd t ≡ false) where
-  cells-more :
-      cellsFrom look (firstRow (t ∷ ts))
-      ≡ record { character = cellCharacter t; look = lookHere t look } ∷ cellsFrom (lookNext t look) (firstRow ts)
-  unfolding cellsFrom
-  cells-more = rw (first-more t ts e)
-
-  coming-bits : ThreeBits (lookHere t look)
-  coming-bits = first-of (rw cells-more at (a .left .sound)) .look
-
-  coming-more : {characters′ looks′ : List ℕ}
-      → characters′ ≡ set characters n (cellCharacter t) → looks′ ≡ set looks n (pack (lookHere t look))
-      → Coming all whole characters₀ looks₀ characters′ looks′ (lookNext t look) ts (n + 1)
-  coming-more p q =
+    {all ts : List Token} {whole : List Cell} {last : Pen} {characters₀ looks₀ characters looks characters′ looks′ : List ℕ} {pen : Pen} {n m : ℕ} where
+  -- a token of the row
+  coming-more : {t : Token} → Coming all whole last characters₀ looks₀ characters looks pen (t ∷ ts) n → isRowEnd t ≡ false
+      → characters′ ≡ stored characters n (map character (cellsOf t pen)) → looks′ ≡ stored looks n (map packedLook (cellsOf t pen))
+      → m ≡ n + length (cellsOf t pen) → Coming all whole last characters₀ looks₀ characters′ looks′ (penAfter t pen) ts m
+  unfolding cellsFrom penEnd
+  coming-more {t} a e p q k =
+      let f = first-more t ts e in
       record {
-        left = left-more (rw cells-more at (a .left)) p q;
+        left = left-more (cellsOf t pen) (cellsFrom (penAfter t pen) (firstRow ts)) (rw f at (a .left)) p q k;
         ended = sym (ended-more t ts e) ∙ a .ended;
-        rest = sym (after-more t ts e) ∙ a .rest;
+        after = sym (ap (penEnd pen) f) ∙ a .after;
       }
 
--- a run of characters: each is in the row, and leaves the look
-coming-run : {all ts : List Token} {whole : List Cell} {characters₀ looks₀ characters looks characters′ looks′ : List ℕ} {look : Look} {n : ℕ} (cs : List ℕ)
-    → Coming all whole characters₀ looks₀ characters looks look (map Character cs ++ ts) n
-    → characters′ ≡ stored characters n cs → looks′ ≡ stored looks n (replicate (length cs) (pack look))
-    → Coming all whole characters₀ looks₀ characters′ looks′ look ts (n + length cs)
-unfolding stored isRowEnd cellCharacter lookHere lookNext
-coming-run [] a p q = rw (p, q, add-zero) a
-coming-run {n = n} (c ∷ cs) a p q =
-    let one : n + suc (length cs) ≡ n + 1 + length cs = omega arith in
-    rw one (coming-run cs (coming-more a refl refl refl) (rw add-one p) (rw add-one q))
+  -- a run of characters
+  coming-run : (cs : List ℕ) → Coming all whole last characters₀ looks₀ characters looks pen (map Character cs ++ ts) n
+      → characters′ ≡ stored characters n (map character (runCells pen cs)) → looks′ ≡ stored looks n (map packedLook (runCells pen cs))
+      → m ≡ n + length (runCells pen cs) → Coming all whole last characters₀ looks₀ characters′ looks′ pen ts m
+  coming-run cs a p q k =
+      let f = first-run ts cs in
+      record {
+        left = left-more (runCells pen cs) (cellsFrom pen (firstRow ts)) (rw (f, run-from pen cs (firstRow ts)) at (a .left)) p q k;
+        ended = sym (ended-run ts cs) ∙ a .ended;
+        after = sym (ap (penEnd pen) f ∙ run-end pen cs (firstRow ts)) ∙ a .after;
+      }
 
--- the row from position i on, after n cells
-pub record Ahead (text : List ℕ) (start : ℕ) (double : Bool) (characters₀ looks₀ characters looks : List ℕ) (look : Look) (i n : ℕ) : Type 0 where
-  pub coming : Coming (tokensFrom text start) (rowAt text start double) characters₀ looks₀ characters looks look (tokensFrom text i) n
+-- the row from position i on, after n cells; `first` is the pen at its start
+pub record Ahead (text : List ℕ) (start : ℕ) (first : Pen) (characters₀ looks₀ characters looks : List ℕ) (pen : Pen) (i n : ℕ) : Type 0 where
+  pub coming : Coming (tokensFrom text start) (cellsFrom first (firstRow (tokensFrom text start))) (penEnd first (firstRow (tokensFrom text start))) characters₀ looks₀ characters looks pen (tokensFrom text i) n
+  pub next : afterRowAt text i ≡ afterRowAt text start
   pub passed : start + n ≤ i
-  pub within : start ≤ length text → i ≤ length text
 
-pub ahead-all : (text : List ℕ) (start : ℕ) (double : Bool) (characters looks : List ℕ) → Ahead text start double characters looks characters looks (whiteOnBlack double) start 0
-ahead-all text start double characters looks =
+pub ahead-all : (text : List ℕ) (start : ℕ) (first : Pen) (characters looks : List ℕ) → Ahead text start first characters looks characters looks first start 0
+ahead-all text start first characters looks =
     record {
       coming =
           record {
-            left =
-                record {
-                  on-characters = unfold rowAt cells in refl;
-                  on-looks = unfold rowAt cells in refl;
-                  count = unfold rowAt cells in omega arith;
-                  sound = unfold rowAt cells in row-sound text start double;
-                  same-characters = refl;
-                  same-looks = refl;
-                };
+            left = record { on-characters = refl; on-looks = refl; count = omega arith; same-characters = refl; same-looks = refl };
             ended = refl;
-            rest = refl;
+            after = refl;
           };
+      next = refl;
       passed = omega arith;
-      within = λ h. h;
+    }
+
+-- no cell is left
+decoded : {text : List ℕ} {start : ℕ} {before first : Pen} {characters₀ looks₀ characters looks : List ℕ} {r : RowRead}
+    → first ≡ rowStart (firstRow (tokensFrom text start)) before
+    → Left characters₀ looks₀ (cellsFrom first (firstRow (tokensFrom text start))) characters looks (r .cells) []
+    → r .ended ≡ isEnded (tokensFrom text start) → r .next ≡ afterRowAt text start → r .pen ≡ penEnd first (firstRow (tokensFrom text start))
+    → Decoded text start before characters₀ looks₀ characters looks r
+unfolding rowAt stored
+decoded e l ended next after =
+    let k = rw e at l in
+    record {
+      on-characters = k .on-characters;
+      on-looks = k .on-looks;
+      count = omega (arith, k .count);
+      ended = ended;
+      next = next;
+      after = rw e at after;
     }
 
 module _
-    {text : List ℕ} {start : ℕ} {double : Bool} {characters₀ looks₀ characters looks : List ℕ} {look : Look} {i n : ℕ}
-    (a : Ahead text start double characters₀ looks₀ characters looks look i n) where
+    {text : List ℕ} {start : ℕ} {first : Pen} {characters₀ looks₀ characters looks : List ℕ} {pen : Pen} {i n : ℕ}
+    (a : Ahead text start first characters₀ looks₀ characters looks pen i n) where
   -- at a token that was read
   module _ {r : Reading} (o : ReadOn text i r) where
-    module _ (e : isRowEnd (r .token) ≡ false) where
-      ahead-bits : ThreeBits (lookHere (r .token) look)
-      ahead-bits = coming-bits (rw (o .first) at (a .coming)) e
+    pub ahead-more : isRowEnd (r .token) ≡ false → {after : Pen} {characters′ looks′ : List ℕ} {m : ℕ} → after ≡ penAfter (r .token) pen
+        → characters′ ≡ stored characters n (map character (cellsOf (r .token) pen)) → looks′ ≡ stored looks n (map packedLook (cellsOf (r .token) pen))
+        → m ≡ n + length (cellsOf (r .token) pen) → Ahead text start first characters₀ looks₀ characters′ looks′ after (r .next) m
+    ahead-more e h p q k =
+        rw h
+        (record {
+          coming = coming-more (rw (o .first) at (a .coming)) e p q k;
+          next = sym (row-more o e) ∙ a .next;
+          passed = omega (arith, a .passed, o .on, k, cells-one (r .token) pen);
+        })
 
-      pub small-here : {here : Look} → here ≡ lookHere (r .token) look → pack here < 128
-      small-here h = rw h (pack-small _ ahead-bits)
-
-      pub small-after : {after : Look} → after ≡ lookNext (r .token) look → pack after < 128
-      small-after h = rw h (pack-small _ (next-bits (r .token) look ahead-bits))
-
-      pub ahead-more : {p : ℕ} {here after : Look} {characters′ looks′ : List ℕ}
-          → p ≡ cellCharacter (r .token) → here ≡ lookHere (r .token) look → after ≡ lookNext (r .token) look
-          → characters′ ≡ set characters n p → looks′ ≡ set looks n (pack here)
-          → Ahead text start double characters₀ looks₀ characters′ looks′ after (r .next) (n + 1)
-      ahead-more hp hh ha hc hl =
-          rw ha
-          (record {
-            coming = coming-more (rw (o .first) at (a .coming)) e (rw hp at hc) (rw hh at hl);
-            passed = omega (arith, a .passed, o .on);
-            within = λ h. o .within;
-          })
-
-    pub ahead-row-end : isRowEnd (r .token) ≡ true
-        → Decoded text start double characters₀ looks₀ characters looks (record { cells = n; ended = true; next = r .next })
-    unfolding cellsFrom stored
-    ahead-row-end e =
+    pub ahead-row-end : isRowEnd (r .token) ≡ true → {before : Pen} → first ≡ rowStart (firstRow (tokensFrom text start)) before
+        → Decoded text start before characters₀ looks₀ characters looks (record { cells = n; ended = true; next = r .next; pen = pen })
+    unfolding cellsFrom penEnd
+    ahead-row-end e h =
         let ts = tokensFrom text (r .next) in
         let b = rw (o .first) at (a .coming) in
-        let l = rw (first-end (r .token) ts e) at (b .left) in
-        record {
-          on-characters = l .on-characters;
-          on-looks = l .on-looks;
-          count = omega (arith, l .count);
-          ended = sym (ended-end (r .token) ts e) ∙ b .ended;
-          rest = sym (after-end (r .token) ts e) ∙ b .rest;
-          onward = λ z. omega (arith, a .passed, o .on);
-          within = λ h. o .within;
-        }
+        let f = first-end (r .token) ts e in
+        decoded h (rw f at (b .left)) (sym (ended-end (r .token) ts e) ∙ b .ended) (sym (row-end o e) ∙ a .next)
+        (sym (ap (penEnd pen) f) ∙ b .after)
 
   -- over a run of plain codes
-  pub ahead-run : {e : ℕ} {characters′ looks′ : List ℕ}
+  pub ahead-run : {e m : ℕ} {characters′ looks′ : List ℕ}
       → RunOn text i e
-      → characters′ ≡ stored characters n (take (e - i) (drop i text))
-      → looks′ ≡ stored looks n (replicate (length (take (e - i) (drop i text))) (pack look))
-      → Ahead text start double characters₀ looks₀ characters′ looks′ look e (n + (e - i))
-  ahead-run {e} o hc hl =
-      let size : length (take (e - i) (drop i text)) ≡ e - i = omega (arith, length-take (e - i) (drop i text), length-drop i text, o .within) in
+      → characters′ ≡ stored characters n (map character (runCells pen (take (e - i) (drop i text))))
+      → looks′ ≡ stored looks n (map packedLook (runCells pen (take (e - i) (drop i text)))) → m ≡ n + (e - i)
+      → Ahead text start first characters₀ looks₀ characters′ looks′ pen e m
+  unfolding runCells
+  ahead-run {e} o hc hl k =
+      let cs = take (e - i) (drop i text) in
+      let size : length (map (runCell pen) cs) ≡ e - i = omega (arith, length-map cs (runCell pen), length-take (e - i) (drop i text), length-drop i text, o .within) in
       record {
-        coming = rw size at (coming-run (take (e - i) (drop i text)) (rw (o .first) at (a .coming)) hc hl);
-        passed = omega (arith, a .passed, o .on);
-        within = λ h. o .within;
+        coming = coming-run cs (rw (o .first) at (a .coming)) hc hl (rw size k);
+        next = sym (o .row) ∙ a .next;
+        passed = omega (arith, a .passed, o .on, k);
       }
 
--- at the text's end
-pub ahead-text-end : {text : List ℕ} {start : ℕ} {double : Bool} {characters₀ looks₀ characters looks : List ℕ} {look : Look} {i n : ℕ}
-    → Ahead text start double characters₀ looks₀ characters looks look i n → length text ≤ i
-    → Decoded text start double characters₀ looks₀ characters looks (record { cells = n; ended = false; next = i })
-unfolding cellsFrom stored
-ahead-text-end {text} {i = i} a h =
-    let t = tokens-end text i h in
-    let b = rw t at (a .coming) in
-    let l = rw first-none at (b .left) in
-    record {
-      on-characters = l .on-characters;
-      on-looks = l .on-looks;
-      count = omega (arith, l .count);
-      ended = sym ended-none ∙ b .ended;
-      rest = t ∙ sym after-none ∙ b .rest;
-      onward = λ z. absurd (false-not-true z);
-      within = a .within;
-    }
+  -- at the text's end
+  pub ahead-text-end : length text ≤ i → {before : Pen} → first ≡ rowStart (firstRow (tokensFrom text start)) before
+      → Decoded text start before characters₀ looks₀ characters looks (record { cells = n; ended = false; next = i; pen = pen })
+  unfolding cellsFrom penEnd
+  ahead-text-end h e =
+      let b = rw (tokens-end text i h) at (a .coming) in
+      decoded e (rw first-none at (b .left)) (sym ended-none ∙ b .ended) (sym (row-over text i h) ∙ a .next)
+      (sym (ap (penEnd pen) first-none) ∙ b .after)

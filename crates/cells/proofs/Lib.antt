@@ -1,8 +1,8 @@
 pub mod Arrays
 pub mod Trimming
 pub mod Growing
-pub mod Settled
 pub mod Spanning
+pub mod Exact
 pub mod Storing
 pub mod Decoding
 pub mod ReadBack

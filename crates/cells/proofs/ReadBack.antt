@@ -7,20 +7,14 @@ use mathlib.Core.Path.{_≡_, refl, ap, _∙_}
 use mathlib.Core.List.{List, [], _∷_, map}
 use lib.ListN.{length, getD, set, take, length-set}
 use lib.Seq.{getD-set-same, getD-set-other}
-use Rattle.meaning.specs.declared.Look.{Look}
-use Rattle.meaning.specs.Looks.{whiteOnBlack, pack, unpack}
-use Rattle.meaning.specs.Cells.{Cell, isBlank}
-use Rattle.meaning.specs.Spans.{colourOf, lookOf}
-use Rattle.meaning.proofs.Logic.{by-test}
+use Rattle.meaning.specs.Looks.{unpack}
+use Rattle.meaning.specs.Cells.{Cell}
 use Rattle.meaning.proofs.ListLaws.{All}
 use Rattle.meaning.proofs.ListLaws.All.{cons}
-use Rattle.meaning.proofs.CellFacts.{Sound, ThreeBits, back-double, back-background, back-colour}
+use Rattle.meaning.proofs.LookLaws.{unpack-pack}
+use Rattle.meaning.proofs.CellFacts.{Sound}
 use Rattle.output.specs.Output.{stored}
-use Rattle.cells.specs.Arrays.{character, packedLook, cellOf, cellAt, cellsAt}
-
--- unpacking what was packed
-pub packed-back : (l : Look) → ThreeBits l → unpack (pack l) ≡ l
-packed-back l h = λ i. record { double = back-double l h i; background = back-background l h i; colour = back-colour l h i }
+use Rattle.cells.specs.Arrays.{character, packedLook, packedCell, cellAt, cellsAt}
 
 -- storing leaves what stands before
 stored-before : (buf : List ℕ) (at : ℕ) (xs : List ℕ) (k : ℕ) → k < at → getD (stored buf at xs) k 0 ≡ getD buf k 0
@@ -35,9 +29,9 @@ stored-first buf at x xs h = stored-before (set buf at x) (suc at) xs at (omega 
 
 cell-back : (characters looks : List ℕ) (i : ℕ) (c : Cell) (xs ys : List ℕ) → Sound c → i < length characters → i < length looks
     → cellAt (stored characters i (character c ∷ xs)) (stored looks i (packedLook c ∷ ys)) i ≡ c
-unfolding cellOf character packedLook
+unfolding packedCell character packedLook
 cell-back characters looks i c xs ys s h k =
-    let e = ap unpack (stored-first looks i (packedLook c) ys k) ∙ packed-back (c .look) (s .look) in
+    let e = ap unpack (stored-first looks i (packedLook c) ys k) ∙ unpack-pack (c .look) (s .look) in
     λ j. record { character = stored-first characters i (character c) xs h j; look = e j }
 
 pub read-back : (n : ℕ) (cs : List Cell) (characters looks : List ℕ) (i : ℕ) → All Sound cs → n ≤ length cs
@@ -53,25 +47,3 @@ read-back (suc n) (c ∷ cs) characters looks i (cons s t) h p q =
     (omega (arith, length-set characters i (character c)))
     (omega (arith, length-set looks i (packedLook c)))
     j
-
--- a look out of an array has three bits for each colour
-unpacked-bits : (n : ℕ) → ThreeBits (unpack n)
-unfolding unpack
-unpacked-bits n = record { background = omega arith; colour = omega arith }
-
-colour-bits : (characters looks : List ℕ) (i n : ℕ) → colourOf (cellsAt characters looks i n) < 8
-unfolding cellsAt colourOf
-colour-bits characters looks i zero = omega arith
-colour-bits characters looks i (suc n) =
-    by-test (isBlank (cellAt characters looks i))
-    (λ e. rw (e, colourOf) (colour-bits characters looks (suc i) n))
-    (λ e. rw (e, colourOf) (unfold cellOf in unpacked-bits (getD looks i 0) .colour))
-
-pub look-bits : (characters looks : List ℕ) (i n : ℕ) → ThreeBits (lookOf (cellsAt characters looks i n))
-unfolding cellsAt lookOf whiteOnBlack
-look-bits characters looks i zero = record { background = omega arith; colour = omega arith }
-look-bits characters looks i (suc n) =
-    record {
-      background = unfold cellOf in unpacked-bits (getD looks i 0) .background;
-      colour = colour-bits characters looks i (suc n);
-    }

@@ -14,11 +14,11 @@ unfoldable pub packedLook : Cell → ℕ
 packedLook c = pack (c .look)
 
 -- a cell from what is kept of it
-unfoldable pub cellOf : ℕ → ℕ → Cell
-cellOf p n = record { character = p; look = unpack n }
+unfoldable pub packedCell : ℕ → ℕ → Cell
+packedCell p n = record { character = p; look = unpack n }
 
 abbrev pub cellAt : List ℕ → List ℕ → ℕ → Cell
-cellAt characters looks k = cellOf (getD characters k 0) (getD looks k 0)
+cellAt characters looks k = packedCell (getD characters k 0) (getD looks k 0)
 
 -- n cells from index i on
 unfoldable pub cellsAt : List ℕ → List ℕ → ℕ → ℕ → List Cell

@@ -1,4 +1,4 @@
 pub mod Arrays
 pub mod Decoded
-pub mod Inks
+pub mod Foregrounds
 pub mod Ranges

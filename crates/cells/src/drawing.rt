@@ -1,18 +1,20 @@
-// The cell that a token draws, and the look that it leaves.
+// The cell that a token draws under a pen, and the pen that it leaves.
 
 ghost use mathlib.Core.Path.{_≡_};
-ghost use Rattle.meaning.specs.Cells.{cellCharacter, controlHere, controlNext, lookHere, lookNext};
+ghost use lib.ListN.{drop};
+ghost use Rattle.meaning.specs.Codes.{tokens};
+ghost use Rattle.meaning.specs.Cells.{controlHere, controlNext, cellOf, penAfter, rowStart};
+ghost use Rattle.rows.specs.FirstRow.{firstRow};
 use meaning::Look;
+use meaning::Pen;
 use meaning::Token;
 
 // The character of a blank cell: 20h, and every control.
 pub const BLANK: u16 = 32;
 
-// A cell, and the look after it.
 pub struct Drawn {
     pub character: u16,
     pub look: Look,
-    pub after: Look,
 }
 
 // 1Ch and 1Dh hold at their own cell.
@@ -43,36 +45,44 @@ fn control_next(c: u8, l: Look) -> Look
     }
 }
 
-fn draw_control(c: u8, before: Look) -> Drawn
-    ensures { λ r. ⌜ (r .character ≡ 32) × (r .look ≡ controlHere c before) × (r .after ≡ controlNext c (controlHere c before)) ⌝ }
+pub fn cell_of(token: Token, pen: Pen) -> Drawn
+    ensures { λ r. ⌜ (r .character ≡ cellOf token pen .character) × (r .look ≡ cellOf token pen .look) ⌝ }
 {
-    let here = control_here(c, before);
-    let after = control_next(c, here);
-    Drawn {
-        character: BLANK,
-        look: here,
-        after,
+    let look = pen.look;
+    match token {
+        Token::Character(p) => Drawn { character: p, look },
+        Token::Control(c) => Drawn {
+            character: BLANK,
+            look: control_here(c, look),
+        },
+        Token::RowEnd => Drawn {
+            character: BLANK,
+            look,
+        },
+        Token::Unlisted => Drawn {
+            character: BLANK,
+            look,
+        },
     }
 }
 
-// A cell that leaves the look as it was.
-fn plain(character: u16, look: Look) -> Drawn
-    ensures { λ r. ⌜ r ≡ record { character = character; look = look; after = look } ⌝ }
-{
-    Drawn {
-        character,
-        look,
-        after: look,
-    }
-}
-
-pub fn draw(token: Token, before: Look) -> Drawn
-    ensures { λ r. ⌜ (r .character ≡ cellCharacter token) × (r .look ≡ lookHere token before) × (r .after ≡ lookNext token before) ⌝ }
+pub fn pen_after(token: Token, pen: Pen) -> Pen
+    ensures { λ r. ⌜ r ≡ penAfter token pen ⌝ }
 {
     match token {
-        Token::Character(p) => plain(p, before),
-        Token::Control(c) => draw_control(c, before),
-        Token::RowEnd => plain(BLANK, before),
-        Token::Unlisted => plain(BLANK, before),
+        Token::Character(_) => pen,
+        Token::Control(c) => {
+            let look = control_next(c, control_here(c, pen.look));
+            Pen { look }
+        }
+        Token::RowEnd => pen,
+        Token::Unlisted => pen,
     }
+}
+
+// The pen at the start of the row that starts at a position.
+pub fn row_start(text: &[u8], start: usize, pen: Pen) -> Pen
+    ensures { λ r. ⌜ r ≡ rowStart (firstRow (tokens (drop start (now (text .entry))))) pen ⌝ }
+{
+    Pen::new(pen.look.double)
 }

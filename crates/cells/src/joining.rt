@@ -1,62 +1,64 @@
-// Which cells join a span, by the packed look of its first cell and by its ink.
+// Which cells join a span, by the packed look of its first cell and by its foreground.
 
 ghost use mathlib.Core.Path.{_≡_};
-ghost use Rattle.meaning.specs.Looks.{pack, unpack};
-ghost use Rattle.cells.specs.Arrays.{cellOf};
-ghost use Rattle.cells.specs.Inks.{inkWith, settledBy, joins, inColour};
+ghost use Rattle.meaning.specs.Looks.{pack, unpack, blend};
+ghost use Rattle.meaning.specs.Cells.{isBlank};
+ghost use Rattle.cells.specs.Arrays.{packedCell};
+ghost use Rattle.cells.specs.Foregrounds.{noForeground, foregroundWith, joins};
 use crate::drawing::BLANK;
 use meaning::Look;
 
-// What a span's cells tell of its colour: whether they are only blanks so far, and the colour.
-pub struct Ink {
+// What a span's cells tell of its foreground: whether they are only blanks so far, and the packed look of the first that is
+// none.
+pub struct Foreground {
     pub blanks: bool,
-    pub colour: u8,
+    pub look: u16,
 }
 
-// A blank joins whatever its colour, and every colour joins where there are only blanks.
-pub fn is_joining(first: u8, ink: Ink, character: u16, look: u8) -> bool
-    ensures { λ r. ⌜ r ≡ joins (unpack first) ink (cellOf character look) ⌝ }
+pub fn is_blank(character: u16, look: u16) -> bool
+    ensures { λ r. ⌜ r ≡ isBlank (packedCell character look) ⌝ }
 {
-    (Look::packed_ground(look) == Look::packed_ground(first))
-        & ((character == BLANK) | (ink.blanks | (Look::packed_colour(look) == ink.colour)))
+    character == BLANK
 }
 
-pub fn inked(ink: Ink, character: u16, look: u8) -> Ink
-    ensures { λ r. ⌜ r ≡ inkWith ink (cellOf character look) ⌝ }
+// Blanks only count as white.
+pub fn no_foreground() -> Foreground
+    ensures { λ r. ⌜ r ≡ noForeground ⌝ }
 {
-    if ink.blanks & (character != BLANK) {
-        Ink {
+    Foreground {
+        blanks: true,
+        look: Look::WHITE as u16,
+    }
+}
+
+// A blank joins whatever its foreground, and every foreground joins where there are only blanks.
+pub fn is_joining(first: u16, fore: Foreground, character: u16, look: u16) -> bool
+    ensures { λ r. ⌜ r ≡ joins (unpack first) fore (packedCell character look) ⌝ }
+{
+    (Look::packed_shared(look) == Look::packed_shared(first))
+        & (is_blank(character, look)
+            | (fore.blanks | (Look::packed_free(look) == Look::packed_free(fore.look))))
+}
+
+// The foreground with one more cell.
+pub fn foreground_with(fore: Foreground, character: u16, look: u16) -> Foreground
+    ensures { λ r. ⌜ r ≡ foregroundWith fore character look ⌝ }
+{
+    if fore.blanks & !is_blank(character, look) {
+        Foreground {
             blanks: false,
-            colour: Look::packed_colour(look),
+            look,
         }
     } else {
-        ink
+        fore
     }
 }
 
-// The look of the cell that a span's ink came from, once there is one: before, a number that no look has.
-pub const NO_LOOK: u16 = 256;
-
-// That look after one more cell.
-pub fn settled(before: u16, character: u16, look: u8) -> u16
-    ensures { λ r. ⌜ r ≡ settledBy before character look ⌝ }
+// The packed look of a span, by that of its first cell and that of its foreground.
+pub fn span_look(first: u16, fore: u16) -> u16
+    ensures { λ r. ⌜ r ≡ pack (blend (unpack first) (unpack fore)) ⌝ }
 {
-    if character == BLANK {
-        before
-    } else {
-        look as u16
-    }
-}
-
-// The packed look of a span, by that of its first cell and its colour.
-pub fn in_colour(first: u8, colour: u8) -> usize
-    ensures { λ r. ⌜ r ≡ pack (inColour (unpack first) colour) ⌝ }
-{
-    let l = Look::unpack(first as usize);
-    let m = Look {
-        double: l.double,
-        background: l.background,
-        colour,
-    };
-    m.pack()
+    let l = Look::unpack(first);
+    let m = Look::unpack(fore);
+    l.blend(m).pack()
 }

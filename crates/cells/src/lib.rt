@@ -1,26 +1,29 @@
 // One row of a text, decoded into two lent arrays, and what is shown of the cells there: their range, and its spans.
 
 ghost use mathlib.Core.Path.{_≡_};
-ghost use Prim.Native.Nat.{_-_, _<_, _≤_, min};
+ghost use mathlib.Core.List.{map};
+ghost use Prim.Native.Nat.{_+_, _-_, _<_, _≤_, min};
 ghost use lib.ListN.{length, set, replicate};
 ghost use Rattle.meaning.specs.Looks.{pack};
-ghost use Rattle.meaning.specs.Cells.{isBlankOnBlack, trimFront, trimBack};
+ghost use Rattle.meaning.specs.Cells.{cellsOf, isBlankOnBlack, trimFront, trimBack};
 ghost use Rattle.output.specs.Output.{stored};
-ghost use Rattle.cells.specs.Arrays.{cellOf, cellsAt, cut};
-ghost use Rattle.cells.specs.Decoded.{Decoded};
-ghost use Rattle.cells.specs.Ranges.{cellsTo, ShownRange, FirstSpan};
-use crate::drawing::BLANK;
-use crate::joining::Ink;
+ghost use Rattle.cells.specs.Arrays.{character, packedLook, packedCell, cellsAt, cut};
+ghost use Rattle.cells.specs.Decoded.{runCells, Decoded};
+ghost use Rattle.cells.specs.Ranges.{cellsTo, shownRange, spanAt, FirstSpan};
 use meaning::Look;
+use meaning::Pen;
+use meaning::Token;
 
 mod drawing;
 mod joining;
 
-// A row that was read: how many cells it has, whether a row end follows it, and the position after that.
+// A row that was read: how many cells it has, whether a row end follows it, the position after that, and the pen after the
+// row.
 pub struct RowRead {
     pub cells: usize,
     pub ended: bool,
     pub next: usize,
+    pub pen: Pen,
 }
 
 // The range of the shown cells.
@@ -32,7 +35,7 @@ pub struct Shown {
 // Where a span ends, and its packed look.
 pub struct SpanRead {
     pub end: usize,
-    pub look: usize,
+    pub look: u16,
 }
 
 fn put_character(characters: &mut [u16], k: usize, p: u16)
@@ -44,12 +47,11 @@ fn put_character(characters: &mut [u16], k: usize, p: u16)
 }
 
 // A look is kept packed.
-fn put_look(looks: &mut [u8], k: usize, look: Look)
-    requires { ⌜ pack look < 128 ⌝ }
+fn put_look(looks: &mut [u16], k: usize, look: Look)
     ensures { λ _. ⌜ now (looks .exit) ≡ set (now (looks .entry)) k (pack look) ⌝ }
 {
     if k < looks.len() {
-        looks[k] = look.pack() as u8;
+        looks[k] = look.pack();
     }
 }
 
@@ -82,11 +84,10 @@ fn put_characters(characters: &mut [u16], k: usize, codes: &[u8])
 }
 
 // n cells of one look.
-fn put_looks(looks: &mut [u8], k: usize, n: usize, look: Look)
-    requires { ⌜ pack look < 128 ⌝ }
+fn put_looks(looks: &mut [u16], k: usize, n: usize, look: Look)
     ensures { λ _. ⌜ now (looks .exit) ≡ stored (now (looks .entry)) k (replicate n (pack look)) ⌝ }
 {
-    let packed = look.pack() as u8;
+    let packed = look.pack();
     let n = places(looks.len(), k, n);
     let mut j = 0;
     while j < n {
@@ -95,27 +96,39 @@ fn put_looks(looks: &mut [u8], k: usize, n: usize, look: Look)
     }
 }
 
-// The cells of a run of plain codes, which leave the look as it is.
-fn put_run(characters: &mut [u16], looks: &mut [u8], k: usize, codes: &[u8], look: Look)
-    requires { ⌜ pack look < 128 ⌝ }
-    ensures { λ _. ⌜ (now (characters .exit) ≡ stored (now (characters .entry)) k (now (codes .entry))) × (now (looks .exit) ≡ stored (now (looks .entry)) k (replicate (length (now (codes .entry))) (pack look))) ⌝ }
+// The cell of a token, if it takes one, and how many cells there are then.
+fn put_cell(characters: &mut [u16], looks: &mut [u16], k: usize, token: Token, pen: Pen) -> usize
+    requires { ⌜ k < 18446744073709551615 ⌝ }
+    ensures { λ r. ⌜ (now (characters .exit) ≡ stored (now (characters .entry)) k (map character (cellsOf token pen))) × (now (looks .exit) ≡ stored (now (looks .entry)) k (map packedLook (cellsOf token pen))) × (r ≡ k + length (cellsOf token pen)) ⌝ }
+{
+    let cell = drawing::cell_of(token, pen);
+    put_character(characters, k, cell.character);
+    let look = cell.look;
+    put_look(looks, k, look);
+    k + 1
+}
+
+// The cells of a run of plain codes, which leave the pen as it is.
+fn put_run(characters: &mut [u16], looks: &mut [u16], k: usize, codes: &[u8], pen: Pen)
+    ensures { λ _. ⌜ (now (characters .exit) ≡ stored (now (characters .entry)) k (map character (runCells pen (now (codes .entry))))) × (now (looks .exit) ≡ stored (now (looks .entry)) k (map packedLook (runCells pen (now (codes .entry))))) ⌝ }
 {
     put_characters(characters, k, codes);
+    let look = pen.look;
     put_looks(looks, k, codes.len(), look);
 }
 
-// The cells of the row that starts at a position. Those that the arrays have no place for are counted all the same. Most
-// codes are plain, so the run of them after a token is stored at once.
+// The cells of the row that starts at a position, from the pen before it. Those that the arrays have no place for are
+// counted all the same. Most codes are plain, so the run of them after a token is stored at once.
 pub fn decode_row(
     text: &[u8],
     start: usize,
-    double: bool,
+    before: Pen,
     characters: &mut [u16],
-    looks: &mut [u8],
+    looks: &mut [u16],
 ) -> RowRead
-    ensures { λ r. ⌜ Decoded (now (text .entry)) start double (now (characters .entry)) (now (looks .entry)) (now (characters .exit)) (now (looks .exit)) r ⌝ }
+    ensures { λ r. ⌜ Decoded (now (text .entry)) start before (now (characters .entry)) (now (looks .entry)) (now (characters .exit)) (now (looks .exit)) r ⌝ }
 {
-    let mut look = Look::white_on_black(double);
+    let mut pen = drawing::row_start(text, start, before);
     let mut i = start;
     let mut n = 0;
     while i < text.len() {
@@ -126,34 +139,32 @@ pub fn decode_row(
                 cells: n,
                 ended: true,
                 next: reading.next,
+                pen,
             };
         }
-        let cell = drawing::draw(token, look);
-        put_character(characters, n, cell.character);
-        let here = cell.look;
-        put_look(looks, n, here);
-        look = cell.after;
-        n += 1;
+        n = put_cell(characters, looks, n, token, pen);
+        pen = drawing::pen_after(token, pen);
         let after = reading.next;
         i = charset::plain_end(text, after);
-        put_run(characters, looks, n, &text[after..i], look);
+        put_run(characters, looks, n, &text[after..i], pen);
         n += i - after;
     }
     RowRead {
         cells: n,
         ended: false,
         next: i,
+        pen,
     }
 }
 
-fn is_blank_on_black(character: u16, look: u8) -> bool
-    ensures { λ r. ⌜ r ≡ isBlankOnBlack (cellOf character look) ⌝ }
+fn is_blank_on_black(character: u16, look: u16) -> bool
+    ensures { λ r. ⌜ r ≡ isBlankOnBlack (packedCell character look) ⌝ }
 {
-    (character == BLANK) & (Look::packed_background(look) == Look::BLACK)
+    joining::is_blank(character, look) & (Look::packed_background(look) == Look::BLACK)
 }
 
 // The first of n cells that is no blank on black, or n.
-fn first_shown(characters: &[u16], looks: &[u8], n: usize) -> usize
+fn first_shown(characters: &[u16], looks: &[u16], n: usize) -> usize
     requires { ⌜ (n ≤ length (now characters)) × (n ≤ length (now looks)) ⌝ }
     ensures { λ r. ⌜ (r ≤ n) × (cellsTo (now (characters .entry)) (now (looks .entry)) r n ≡ trimFront (cellsAt (now (characters .entry)) (now (looks .entry)) 0 n)) ⌝ }
 {
@@ -168,7 +179,7 @@ fn first_shown(characters: &[u16], looks: &[u8], n: usize) -> usize
 }
 
 // The index after the last of the cells from start up to n that is no blank on black, or start.
-fn end_shown(characters: &[u16], looks: &[u8], start: usize, n: usize) -> usize
+fn end_shown(characters: &[u16], looks: &[u16], start: usize, n: usize) -> usize
     requires { ⌜ (start ≤ n) × (n ≤ length (now characters)) × (n ≤ length (now looks)) ⌝ }
     ensures { λ r. ⌜ (start ≤ r) × (r ≤ n) × (cellsTo (now (characters .entry)) (now (looks .entry)) start r ≡ trimBack (cellsTo (now (characters .entry)) (now (looks .entry)) start n)) ⌝ }
 {
@@ -184,15 +195,15 @@ fn end_shown(characters: &[u16], looks: &[u8], start: usize, n: usize) -> usize
 }
 
 // Both arrays have the cells below the result.
-fn cut_to(characters: &[u16], looks: &[u8], n: usize) -> usize
+fn cut_to(characters: &[u16], looks: &[u16], n: usize) -> usize
     ensures { λ r. ⌜ r ≡ cut (now (characters .entry)) (now (looks .entry)) n ⌝ }
 {
     least(n, least(characters.len(), looks.len()))
 }
 
 // The shown cells among the first n, as far as both arrays go.
-pub fn shown_range(characters: &[u16], looks: &[u8], n: usize) -> Shown
-    ensures { λ r. ⌜ ShownRange (now (characters .entry)) (now (looks .entry)) (cut (now (characters .entry)) (now (looks .entry)) n) r ⌝ }
+pub fn shown_range(characters: &[u16], looks: &[u16], n: usize) -> Shown
+    ensures { λ r. ⌜ r ≡ shownRange (cellsAt (now (characters .entry)) (now (looks .entry)) 0 (cut (now (characters .entry)) (now (looks .entry)) n)) ⌝ }
 {
     let n = cut_to(characters, looks, n);
     let start = first_shown(characters, looks, n);
@@ -200,50 +211,44 @@ pub fn shown_range(characters: &[u16], looks: &[u8], n: usize) -> Shown
     Shown { start, end }
 }
 
-// A cell of the look that the ink came from joins and changes nothing; most are such.
-fn span_from(characters: &[u16], looks: &[u8], start: usize, end: usize) -> SpanRead
+// A cell of the look that the foreground came from joins and changes nothing; most are such.
+fn span_from(characters: &[u16], looks: &[u16], start: usize, end: usize) -> SpanRead
     requires { ⌜ (start < end) × (end ≤ length (now characters)) × (end ≤ length (now looks)) ⌝ }
     ensures { λ r. ⌜ FirstSpan (now (characters .entry)) (now (looks .entry)) start end r ⌝ }
 {
     let first = looks[start];
-    let none = Ink {
-        blanks: true,
-        colour: Look::WHITE,
-    };
-    let mut ink = joining::inked(none, characters[start], first);
-    let mut known = joining::settled(joining::NO_LOOK, characters[start], first);
+    let mut fore = joining::foreground_with(joining::no_foreground(), characters[start], first);
     let mut i = start + 1;
     while i < end {
         let look = looks[i];
-        if look as u16 != known {
+        if fore.blanks | (look != fore.look) {
             let character = characters[i];
-            if !joining::is_joining(first, ink, character, look) {
+            if !joining::is_joining(first, fore, character, look) {
                 return SpanRead {
                     end: i,
-                    look: joining::in_colour(first, ink.colour),
+                    look: joining::span_look(first, fore.look),
                 };
             }
-            ink = joining::inked(ink, character, look);
-            known = joining::settled(known, character, look);
+            fore = joining::foreground_with(fore, character, look);
         }
         i += 1;
     }
     SpanRead {
         end: i,
-        look: joining::in_colour(first, ink.colour),
+        look: joining::span_look(first, fore.look),
     }
 }
 
 // The first span of the cells from start up to end, as far as both arrays go. Where there are none it is empty, white on
 // black.
-pub fn span_at(characters: &[u16], looks: &[u8], start: usize, end: usize) -> SpanRead
-    ensures { λ r. ⌜ FirstSpan (now (characters .entry)) (now (looks .entry)) start (cut (now (characters .entry)) (now (looks .entry)) end) r ⌝ }
+pub fn span_at(characters: &[u16], looks: &[u16], start: usize, end: usize) -> SpanRead
+    ensures { λ r. ⌜ r ≡ spanAt start (cellsTo (now (characters .entry)) (now (looks .entry)) start (cut (now (characters .entry)) (now (looks .entry)) end)) ⌝ }
 {
     let end = cut_to(characters, looks, end);
     if end <= start {
         return SpanRead {
             end: start,
-            look: Look::WHITE as usize,
+            look: Look::WHITE as u16,
         };
     }
     span_from(characters, looks, start, end)

@@ -1,26 +1,29 @@
 -- A text is read position by position: its tokens from a position on are the one there, and those from the next on.
 -- Assumes nothing.
-use Prim.Native.Nat.{ℕ, _+_, _-_, _≤_, _<_}
+use Prim.Native.Nat.{ℕ, zero, suc, _+_, _-_, _≤_, _<_}
+use native.Mathlib.Nat.{add-zero}
 use native.Mathlib.Omega.{arith}
 use native.Mathlib.Numerals.{add-one}
-use mathlib.Core.Path.{_≡_, refl, ap}
-use mathlib.Core.Bool.{Bool, true, false, _&&_, and-eq-true-iff}
+use mathlib.Core.Path.{_≡_, refl, ap, _∙_}
+use mathlib.Core.Bool.{true, false, cond}
 use mathlib.Core.List.{List, [], _∷_, map, _++_}
-use mathlib.Core.Logic.{_⊎_, inl, inr, ⊎-map}
+use mathlib.Core.Logic.{_⊎_, inl, inr}
 use lib.Dec.{ltb}
 use lib.ListN.{length, getD, take, drop, drop-of-length-le}
 use lib.Seq.{drop-cons, drop-drop}
 use borrow.Author.Tests.{lt-ltb, lt-leb, ltb-true, ltb-false}
+use Rattle.meaning.specs.declared.Token.{Token}
 use Rattle.meaning.specs.declared.Token.the-variants.{Character}
 use Rattle.meaning.specs.Characters.{accent}
-use Rattle.meaning.specs.Codes.{isAccent, codeToken, pairToken, tokens}
+use Rattle.meaning.specs.Codes.{isAccent, codeToken, pairToken, tokens, isRowEnd}
 use Rattle.meaning.proofs.Logic.{by-test}
 use Rattle.meaning.proofs.Tokens.{tokens-pair as first-pair, tokens-code}
 use Rattle.charset.specs.declared.Reading.{Reading}
-use Rattle.charset.specs.Reading.{isPairAt, readingAt}
+use Rattle.charset.specs.Reading.{isPairAt, readingAt, tokenAt, nextAt, afterRowAt}
 use Rattle.charset.specs.Plain.{isPlain, plainRun, plainEnd}
 use Rattle.charset.proofs.Codes.{plain-range, plain-token}
-use Rattle.charset.proofs.Runs.{run-goes-on, run-ends, run-within}
+use Rattle.charset.proofs.Runs.{run-goes-on, run-ends, run-within, end-here, end-later, end-nowhere}
+use Rattle.charset.proofs.Positions.{by-reading, next-on, row-step}
 
 -- a code that is no accent, or has none after it
 first-single : (c : ℕ) (cs : List ℕ) → isAccent c ≡ false → tokens (c ∷ cs) ≡ codeToken c ∷ tokens cs
@@ -58,36 +61,25 @@ module _ (s : List ℕ) (i : ℕ) where
       rw (drop-next s i h) (first-last (getD s i 0) (drop (i + 1) s) (drop-of-length-le s end))
 
 -- What the reading r at a position i of a text s tells: the first of the tokens from i on, that the others are those from
--- the reading's next position on, and where that lies.
+-- the reading's next position on, where that lies, and where the row ends.
 pub record ReadOn (s : List ℕ) (i : ℕ) (r : Reading) : Type 0 where
   pub first : tokens (drop i s) ≡ r .token ∷ tokens (drop (r .next) s)
   pub on : i < r .next
   pub within : r .next ≤ length s
-
-one-false : (a b : Bool) → (a && b) ≡ false → a ≡ false ⊎ (b ≡ false)
-one-false true b e = inr e
-one-false false b e = inl refl
+  pub row : afterRowAt s i ≡ cond (isRowEnd (r .token)) (r .next) (afterRowAt s (r .next))
 
 module _ (s : List ℕ) (i : ℕ) (h : i < length s) where
-  read-pair : isPairAt s i ≡ true → ReadOn s i (readingAt s i)
-  unfolding readingAt isPairAt
-  read-pair p =
-      let both = and-eq-true-iff (isAccent (getD s i 0)) (ltb (i + 1) (length s)) .0 p in
-      let room = ltb-true (i + 1) (length s) (both .1) in
-      rw (lt-ltb i (length s) h, p)
-      (record { first = tokens-pair s i room (both .0); on = omega arith; within = omega arith })
-
-  read-single : isPairAt s i ≡ false → ReadOn s i (readingAt s i)
-  unfolding readingAt isPairAt
-  read-single p =
-      let w = one-false (isAccent (getD s i 0)) (ltb (i + 1) (length s)) p in
-      let last : ltb (i + 1) (length s) ≡ false → i + 1 ≡ length s = λ e. omega (arith, ltb-false (i + 1) (length s) e) in
-      rw (lt-ltb i (length s) h, p)
-      (record { first = tokens-single s i h (⊎-map (λ a. a) last w); on = omega arith; within = omega arith })
+  first-at : tokens (drop i s) ≡ tokenAt s i ∷ tokens (drop (nextAt s i) s)
+  first-at =
+      by-reading s i (λ (r : Reading). tokens (drop i s) ≡ r .token ∷ tokens (drop (r .next) s)) h
+      (λ a k. tokens-pair s i k a)
+      (λ w. tokens-single s i h w)
 
   -- where the text has a code at i
   pub read-at : ReadOn s i (readingAt s i)
-  read-at = by-test (isPairAt s i) read-pair read-single
+  read-at =
+      let o = next-on s i h in
+      record { first = first-at; on = o .0; within = o .1; row = row-step s i h }
 
 -- The law for loops over a text, of the result r of a call of `token_at`.
 pub read-on : {s : List ℕ} {i : ℕ} {r : Reading} → r ≡ readingAt s i → i < length s → ReadOn s i r
@@ -127,15 +119,41 @@ take-run (c ∷ cs) =
     (λ p. rw (run-goes-on c cs p) (ap (λ (xs : List ℕ). c ∷ xs) (take-run cs)))
     (λ p. rw (run-ends c cs p))
 
--- the codes of a text s from i up to e are a run: the tokens from i on are its characters, and those from e on
+-- a run is within its row
+row-plain : (s : List ℕ) (i : ℕ) → i < length s → isPlain (getD s i 0) ≡ true → afterRowAt s i ≡ afterRowAt s (i + 1)
+unfolding isRowEnd
+row-plain s i h p =
+    row-step s i h
+    ∙ ap (λ (r : Reading). cond (isRowEnd (r .token)) (r .next) (afterRowAt s (r .next)))
+    (low-reading s i h (omega (arith, plain-range (getD s i 0) p .1)))
+    ∙ ap (λ (t : Token). cond (isRowEnd t) (i + 1) (afterRowAt s (i + 1))) (plain-token (getD s i 0) p)
+
+row-passes : (k : ℕ) (s : List ℕ) (i : ℕ) → length (plainRun (drop i s)) ≡ k → afterRowAt s i ≡ afterRowAt s (i + k)
+row-passes zero s i e = rw add-zero
+row-passes (suc k) s i e =
+    by-test (ltb i (length s))
+    (λ l.
+    let h = ltb-true i (length s) l in
+    let one : i + suc k ≡ i + 1 + k = omega arith in
+    by-test (isPlain (getD s i 0))
+    (λ p. rw one (row-plain s i h p ∙ row-passes k s (i + 1) (omega (arith, end-later s i h p))))
+    (λ p. absurd (omega (arith, end-here s i h p))))
+    (λ l. absurd (omega (arith, end-nowhere s i (ltb-false i (length s) l))))
+
+pub run-row : (s : List ℕ) (i : ℕ) → afterRowAt s i ≡ afterRowAt s (plainEnd s i)
+unfolding plainEnd
+run-row s i = row-passes (length (plainRun (drop i s))) s i refl
+
+-- the codes of a text s from i up to e are a run: the tokens from i on are its characters, and those from e on; the row goes on
 pub record RunOn (s : List ℕ) (i e : ℕ) : Type 0 where
   pub first : tokens (drop i s) ≡ map Character (take (e - i) (drop i s)) ++ tokens (drop e s)
   pub on : i ≤ e
   pub within : e ≤ length s
+  pub row : afterRowAt s i ≡ afterRowAt s e
 
 -- The law for loops that pass over runs, of the result e of a call of `plain_end`.
 pub run-on : {s : List ℕ} {i e : ℕ} → e ≡ plainEnd s i → i ≤ length s → RunOn s i e
 unfolding plainEnd
 run-on {s} {i} p h =
     let size : plainEnd s i - i ≡ length (plainRun (drop i s)) = omega arith in
-    rw p (record { first = rw (size, take-run (drop i s)) (run-at s i); on = omega arith; within = run-within s i h })
+    rw p (record { first = rw (size, take-run (drop i s)) (run-at s i); on = omega arith; within = run-within s i h; row = run-row s i })

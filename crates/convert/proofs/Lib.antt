@@ -1,7 +1,5 @@
 pub mod Laying
-pub mod CountLaws
-pub mod Keeping
-pub mod Closing
-pub mod BlockLaws
-pub mod Running
+pub mod Stepping
+pub mod Looping
+pub mod Marking
 pub mod Converting

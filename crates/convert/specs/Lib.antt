@@ -1,2 +1,3 @@
-pub mod Following
-pub mod Measuring
+pub mod Laid
+pub mod Passing
+pub mod Telling

@@ -1,13 +1,12 @@
 // The parts of a document over a lent buffer: what stands before the paragraphs, a paragraph, and what stands after them.
 
-ghost use mathlib.Core.Path.{_≡_};
 ghost use Rattle.meaning.specs.Document.{writeTime, alignmentName, afterParagraphs};
 ghost use Rattle.meaning.specs.Conversion.{alignmentOf};
 ghost use Rattle.output.specs.Output.{Wrote};
-ghost use Rattle.block.specs.IsHeader.{timeOf};
 ghost use Rattle.document.specs.Parts.{headOf, paragraphFor, ParagraphLaid};
-use block::Header;
-use block::Time;
+use meaning::Format;
+use meaning::Header;
+use meaning::Time;
 use styles::Marks;
 use text::Tally;
 
@@ -40,7 +39,7 @@ pub fn put_tail(out: &mut [u8], at: usize) -> usize
 }
 
 fn put_time(out: &mut [u8], at: usize, t: Time) -> usize
-    ensures { λ r. ⌜ Wrote (now (out .entry)) at (writeTime (timeOf t)) (now (out .exit)) r ⌝ }
+    ensures { λ r. ⌜ Wrote (now (out .entry)) at (writeTime t) (now (out .exit)) r ⌝ }
 {
     let p = output::put_digits2(out, at, t.hours);
     let p = output::put_byte(out, p, b':');
@@ -64,9 +63,10 @@ fn put_alignment(out: &mut [u8], at: usize, jc: u8) -> usize
 }
 
 // The paragraph of a set, from the header of its first block and its whole text.
-pub fn put_paragraph(out: &mut [u8], t: Tally, h: Header, text: &[u8], mode: u64) -> Tally
-    ensures { λ r. ⌜ ParagraphLaid (now (out .entry)) t (paragraphFor mode h (now (text .entry))) (now (out .exit)) r ⌝ }
+pub fn put_paragraph(out: &mut [u8], mut t: Tally, h: Header, text: &[u8], f: Format) -> Tally
+    ensures { λ r. ⌜ ParagraphLaid (now (out .entry)) t (paragraphFor f h (now (text .entry))) (now (out .exit)) r ⌝ }
 {
+    let screen = f.screen;
     let begin = h.tci;
     let end = h.tco;
     let p = output::put(out, t.at, b"<tt:p xml:id=\"sub");
@@ -78,9 +78,8 @@ pub fn put_paragraph(out: &mut [u8], t: Tally, h: Header, text: &[u8], mode: u64
     let p = output::put(out, p, b"\" end=\"");
     let p = put_time(out, p, end);
     let p = output::put(out, p, b"\">");
-    let mut inside = t;
-    inside.at = p;
-    let mut r = text::put_content(out, inside, text, mode, h.vp);
+    t.at = p;
+    let mut r = text::put_content(out, t, text, f.mode, screen.end, h.vp);
     r.at = output::put(out, r.at, b"</tt:p>\n");
     r
 }

@@ -1,61 +1,56 @@
 -- What an answer of 0 says of the file: the walk accepted it, the document fits, and the counts are those of its blocks.
 -- Assumes nothing.
-use Prim.Native.Nat.{ℕ, zero, suc, _+_}
+use Prim.Native.Nat.{ℕ, _+_}
 use native.Mathlib.Omega.{arith}
 use mathlib.Core.Path.{_≡_, refl, sym, ap, _∙_}
-use mathlib.Core.Bool.{Bool, true, false}
+use mathlib.Core.Bool.{Bool, true}
 use mathlib.Core.List.{List, [], _∷_, _++_}
-use lib.Dec.{leb, eqb}
+use lib.Dec.{leb}
 use lib.ListN.{length, take, drop}
 use lib.Seq.{take-at}
 use borrow.Author.Tests.{eqb-true}
 use Rattle.meaning.specs.declared.Answer.{Answer}
 use Rattle.meaning.specs.Lists.{all}
-use Rattle.meaning.specs.Gsi.{field, rateOf, isRate, blockCount, isDigit, tnb, fileRule}
+use Rattle.meaning.specs.declared.Format.{Format}
+use Rattle.meaning.specs.Gsi.{field, rateOf, isRate, formatOf, blockCount, isDigit, tnb, fileRule}
 use Rattle.meaning.specs.Blocks.{blocks}
-use Rattle.meaning.specs.Sets.{Progress, Outcome, start, walk, outcome}
+use Rattle.meaning.specs.Sets.{total, Progress, Outcome, walk, outcome}
 use Rattle.meaning.specs.Sets.Outcome.{refused, accepted}
 use Rattle.meaning.specs.Document.{Document, render, documentSpans}
 use Rattle.meaning.specs.Conversion.{documentOf, refusal, acceptance, answerTo, answer, bufferAfter, output}
 use Rattle.meaning.proofs.Logic.{by-test, by-number, and-parts}
 use Rattle.meaning.proofs.ListLaws.{All, unbroken}
 use Rattle.meaning.proofs.ListLaws.All.{nil, cons}
-use Rattle.meaning.proofs.Walk.{total, Held, Kept, walk-held}
-
-blocks-length : (n : ℕ) (s : List ℕ) → length (blocks n s) ≡ n
-unfolding blocks
-blocks-length zero s = refl
-blocks-length (suc n) s = ap suc (blocks-length n (drop 128 s))
+use Rattle.meaning.proofs.Steps.{blocks-length}
+use Rattle.meaning.proofs.Walk.{Held, Kept, walk-held}
 
 module _ (Block : List ℕ → Type 0) (mode : ℕ) (file : List ℕ) (blocked : All Block (blocks (blockCount file) (drop 1024 file))) where
-  pub outcome-kept : Kept Block mode (rateOf file) (blockCount file) (outcome mode file)
-  unfolding outcome
+  pub outcome-kept : Kept Block (formatOf mode file) (blockCount file) (outcome mode file)
+  unfolding outcome walk
   outcome-kept =
       by-number (fileRule mode file)
-      (λ e.
-      rw (e, outcome)
-      (rw (blocks-length (blockCount file) (drop 1024 file)) at (walk-held Block mode (rateOf file) (blocks (blockCount file) (drop 1024 file)) blocked)))
+      (λ e. rw (e, outcome) (rw (blocks-length (blockCount file) (drop 1024 file)) at (walk-held Block (formatOf mode file) blocked)))
       (λ m e. rw (e, outcome) (λ z. omega arith))
 
   -- an accepted file, with what is known of it and the answer and buffer that it gets
   pub record Accepted (buffer : List ℕ) : Type 0 where
     pub progress : Progress
     pub came : outcome mode file ≡ accepted progress
-    pub held : Held Block mode (rateOf file) (blockCount file) progress
+    pub held : Held Block (formatOf mode file) (blockCount file) progress
     pub answered :
         answer mode file (length buffer)
-        ≡ acceptance (length (render (documentOf (rateOf file) progress))) progress
-        (documentSpans (documentOf (rateOf file) progress .paragraphs))
-    pub written : output mode file buffer ≡ render (documentOf (rateOf file) progress) ++ drop (length (render (documentOf (rateOf file) progress))) buffer
+        ≡ acceptance (length (render (documentOf (formatOf mode file) progress))) progress
+        (documentSpans (documentOf (formatOf mode file) progress .paragraphs))
+    pub written : output mode file buffer ≡ render (documentOf (formatOf mode file) progress) ++ drop (length (render (documentOf (formatOf mode file) progress))) buffer
 
   -- an answer of 0 to an outcome
   accepted-by :
-      (buffer : List ℕ) (o : Outcome) → outcome mode file ≡ o → Kept Block mode (rateOf file) (blockCount file) o
-      → answerTo (rateOf file) (length buffer) o .number ≡ 0 → Accepted buffer
+      (buffer : List ℕ) (o : Outcome) → outcome mode file ≡ o → Kept Block (formatOf mode file) (blockCount file) o
+      → answerTo (formatOf mode file) (length buffer) o .number ≡ 0 → Accepted buffer
   unfolding answerTo bufferAfter answer output refusal
   accepted-by buffer (refused n k) c h e = absurd (h e)
   accepted-by buffer (accepted p) c h e =
-      by-test (leb (length (render (documentOf (rateOf file) p))) (length buffer))
+      by-test (leb (length (render (documentOf (formatOf mode file) p))) (length buffer))
       (λ f.
       record {
         progress = p;
@@ -121,11 +116,11 @@ module _ (mode : ℕ) (file : List ℕ) where
 
 module _ {Block : List ℕ → Type 0} {mode : ℕ} {file : List ℕ} {h : All Block (blocks (blockCount file) (drop 1024 file))} {buffer : List ℕ} (t : Accepted Block mode file h buffer) where
   -- the length is that of the document
-  pub length-is-document : answer mode file (length buffer) .length ≡ length (render (documentOf (rateOf file) (t .progress)))
+  pub length-is-document : answer mode file (length buffer) .length ≡ length (render (documentOf (formatOf mode file) (t .progress)))
   unfolding acceptance
   length-is-document = ap (λ (a : Answer). a .length) (t .answered)
 
   -- the buffer begins with the document
   pub front-is-document :
-      take (answer mode file (length buffer) .length) (output mode file buffer) ≡ render (documentOf (rateOf file) (t .progress))
+      take (answer mode file (length buffer) .length) (output mode file buffer) ≡ render (documentOf (formatOf mode file) (t .progress))
   front-is-document = rw (length-is-document, t .written) (take-at _ _ _ refl)

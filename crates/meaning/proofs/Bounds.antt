@@ -9,16 +9,18 @@ use mathlib.Core.List.{List, [], _∷_, _++_, map}
 use lib.Dec.{leb, eqb, ltb}
 use lib.ListN.{length, replicate, length-append, length-map, length-take, length-replicate}
 use borrow.Author.Tests.{leb-true}
-use Rattle.meaning.specs.declared.Look.{Look}
+use Rattle.meaning.specs.declared.Pen.{Pen}
 use Rattle.meaning.specs.declared.Token.{Token}
 use Rattle.meaning.specs.Lists.{all, keep, joinMap, joined, upFrom, bytes}
-use Rattle.meaning.specs.Looks.{whiteOnBlack, pack, unpack}
-use Rattle.meaning.specs.Codes.{tokens}
+use Rattle.meaning.specs.Looks.{lookCount, pack, unpack}
+use Rattle.meaning.specs.Codes.{tokens, takesCell}
 use Rattle.meaning.specs.Rows.{isDouble, rows, linesOf, rowCount, isShort, rowsFit, textRule}
-use Rattle.meaning.specs.Cells.{Cell, lookNext, cellsFrom, cells, isBlankOnBlack, trimFront, beforeTrimmed, trimBack, shown}
+use Rattle.meaning.specs.Cells.{Cell, points, newPen, penAfter, cellsOf, cellsFrom, rowStart, cellsOfRow, penAfterRow, cellRows, isBlankOnBlack, trimFront, beforeTrimmed, trimBack, shown}
 use Rattle.meaning.specs.Spans.{lookOf, uniform, spansFrom, spans}
-use Rattle.meaning.specs.Gsi.{field, rateOf, blockCount, isDigit, valueFrom, tnb, fileRule}
-use Rattle.meaning.specs.Blocks.{Time, vp}
+use Rattle.meaning.specs.Gsi.{field, teletext, formatOf, blockCount, isDigit, valueFrom, tnb, fileRule}
+use Rattle.meaning.specs.declared.Time.{Time}
+use Rattle.meaning.specs.declared.Header.{Header}
+use Rattle.meaning.specs.declared.Format.{Format}
 use Rattle.meaning.specs.Sets.{Subtitle, Progress, outcome, subtitleOf}
 use Rattle.meaning.specs.Sets.Outcome.{accepted}
 use Rattle.meaning.specs.Document.{Piece, Alignment, Paragraph, Document, digits, withoutZeros, decimal, utf8, escaped, styleName, writeSpan, writePiece, writeTime, alignmentName, writeParagraph, channel, colourName, sizeName, writeStyle, isUsed, looksUsed, beforeRate, beforeStyles, beforeParagraphs, afterParagraphs, render, documentSpans}
@@ -117,16 +119,20 @@ escaped-bound p =
     (either-bound 5 (eqb p 60) _ _ (omega arith) (either-bound 5 (eqb p 62) _ _ (omega arith) (utf8-bound p)))
 
 -- a span
+points-bound : (c : Cell) → length (points c) ≤ 1
+unfolding points
+points-bound c = omega arith
+
 span-bound : (g : List Cell) → length (writePiece (span (spanOf g))) ≤ 32 + 5 * length g
 unfolding writePiece writeSpan spanOf styleName joined bytes
 span-bound g =
-    let ps = map (λ (c : Cell). c .character) g in
+    let ps = joinMap points g in
     simp length-append
     (omega (
       arith,
       digits-length 3 (pack (lookOf g)),
       join-bound escaped 5 (every escaped-bound ps),
-      length-map g (λ (c : Cell). c .character),
+      join-bound points 1 (every points-bound g),
     ))
 
 -- the bytes of pieces
@@ -136,11 +142,14 @@ size ps = length (joinMap writePiece ps)
 size-append : (ps qs : List Piece) → size (ps ++ qs) ≡ size ps + size qs
 size-append ps qs = ap length (join-append writePiece ps qs) ∙ length-append (joinMap writePiece ps) (joinMap writePiece qs)
 
--- a row: its cells are as many as its tokens, those shown are no more, and each is at worst a span by itself
-cells-length : (l : Look) (ts : List Token) → length (cellsFrom l ts) ≡ length ts
-unfolding cellsFrom
-cells-length l [] = refl
-cells-length l (t ∷ ts) = ap suc (cells-length (lookNext t l) ts)
+-- a row: its cells are as many as its tokens that take one, those shown are no more, and each is at worst a span by itself
+pub cells-length : (p : Pen) (ts : List Token) → length (cellsFrom p ts) ≡ length (keep takesCell ts)
+unfolding cellsFrom cellsOf keep
+cells-length p [] = refl
+cells-length p (t ∷ ts) =
+    by-test (takesCell t)
+    (λ e. rw (e, keep) (ap suc (cells-length (penAfter t p) ts)))
+    (λ e. rw (e, keep) (cells-length (penAfter t p) ts))
 
 front-bound : (cs : List Cell) → length (trimFront cs) ≤ length cs
 front-bound [] = unfold trimFront in omega arith
@@ -171,30 +180,30 @@ unfolding spans joinMap
 spans-size [] = omega arith
 spans-size (c ∷ cs) = omega (arith, from-bound (c ∷ []) cs)
 
-row-bound : (double : Bool) (r : List Token) → isShort r ≡ true → size (map span (rowSpans (cells double r))) ≤ 2368
-unfolding isShort rowSpans shown cells
-row-bound double r e =
-    let cs = cells double r in
+row-bound : (p : Pen) (r : List Token) → isShort r ≡ true → size (map span (rowSpans (cellsOfRow p r))) ≤ 2368
+unfolding isShort rowSpans shown
+row-bound p r e =
+    let cs = cellsOfRow p r in
     omega (
       arith,
-      leb-true (length r) 64 e,
-      cells-length (whiteOnBlack double) r,
+      leb-true (length (keep takesCell r)) 64 e,
+      cells-length (rowStart r p) r,
       front-bound cs,
       back-bound (trimFront cs),
       spans-size (shown cs),
     )
 
 -- the rows of a subtitle, each with a tt:br
-later-bound : (double : Bool) (rs : List (List Token)) → all isShort rs ≡ true → size (laterRows (map (cells double) rs)) ≤ 2376 * length rs
-unfolding laterRows joinMap writePiece bytes
-later-bound double [] e = omega arith
-later-bound double (r ∷ rs) e =
+later-bound : (p : Pen) (rs : List (List Token)) → all isShort rs ≡ true → size (laterRows (cellRows p rs)) ≤ 2376 * length rs
+unfolding cellRows laterRows joinMap writePiece bytes
+later-bound p [] e = omega arith
+later-bound p (r ∷ rs) e =
     let s = test-split isShort r rs e in
     omega (
       arith,
-      size-append (map span (rowSpans (cells double r))) (laterRows (map (cells double) rs)),
-      row-bound double r (s .0),
-      later-bound double rs (s .1),
+      size-append (map span (rowSpans (cellsOfRow p r))) (laterRows (cellRows (penAfterRow p r) rs)),
+      row-bound p r (s .0),
+      later-bound (penAfterRow p r) rs (s .1),
     )
 
 rows-later : (rs : List (List Cell)) → size (rowPieces rs) ≤ size (laterRows rs)
@@ -225,50 +234,52 @@ paragraph-bound p =
     simp length-append
     (omega (arith, decimal-bound (p .number), alignment-bound (p .alignment), time-length (p .begin), time-length (p .end)))
 
--- rule 15: at most 24 rows, each of them short, and at most 24 filler lines
+-- rule 15 on a screen that ends before line 24: at most 24 rows, each of them short, and at most 24 filler lines
 lines-least : (double : Bool) (n : ℕ) → n ≤ linesOf double (record { 0 = n }) .0
 unfolding linesOf
 lines-least true n = omega arith
 lines-least false n = omega arith
 
-module _ (mode : ℕ) (first : List ℕ) (ts : List Token) (e : textRule mode (vp first) ts ≡ 0) where
-  rows-fit : (all isShort (rows mode ts) ≡ true) × (vp first + linesOf (isDouble ts) (rowCount (rows mode ts)) .0 ≤ 24)
+module _ (f : Format) (first : Header) (ts : List Token) (e : textRule (f .mode) (f .screen .end) (first .vp) ts ≡ 0) where
+  rows-fit : (all isShort (rows (f .mode) ts) ≡ true) × (first .vp + linesOf (isDouble ts) (rowCount (rows (f .mode) ts)) .0 ≤ f .screen .end)
   unfolding textRule rowsFit
   rows-fit =
-      let f = and-parts _ _ (unbroken _ _ _ (unbroken _ _ _ (unbroken _ _ _ e .1) .1) .0) in
-      (f .0, leb-true _ 24 (f .1))
+      let r = and-parts _ _ (unbroken _ _ _ (unbroken _ _ _ (unbroken _ _ _ e .1) .1) .0) in
+      (r .0, leb-true _ (f .screen .end) (r .1))
 
-  pieces-bound : size (paragraphOf (subtitleOf mode first ts) .pieces) ≤ 59900
+  pieces-bound : f .screen .end ≤ 24 → size (paragraphOf f (subtitleOf (f .mode) first ts) .pieces) ≤ 59900
   unfolding subtitleOf rowCount fillers
-  pieces-bound =
-      let s = subtitleOf mode first ts in
-      rw (pieces-are s)
+  pieces-bound h =
+      let s = subtitleOf (f .mode) first ts in
+      rw (pieces-are f s)
       (omega (
         arith,
         rows-fit,
-        size-append (rowPieces (s .rows)) (replicate (fillersOf s) br),
+        size-append (rowPieces (s .rows)) (replicate (fillersOf f s) br),
         rows-later (s .rows),
-        later-bound (isDouble ts) (rows mode ts) (rows-fit .0),
-        fillers-bound (fillersOf s),
-        lines-least (isDouble ts) (length (rows mode ts)),
+        later-bound (newPen (isDouble ts)) (rows (f .mode) ts) (rows-fit .0),
+        fillers-bound (fillersOf f s),
+        lines-least (isDouble ts) (length (rows (f .mode) ts)),
       ))
 
-made-bound : {Block : List ℕ → Type 0} {mode rate : ℕ} (s : Subtitle) → Made Block mode rate s → length (writeParagraph (paragraphOf s)) ≤ 60000
-made-bound {mode = mode} s m =
+made-bound :
+    {Block : List ℕ → Type 0} {f : Format} → f .screen .end ≤ 24 → (s : Subtitle) → Made Block f s
+    → length (writeParagraph (paragraphOf f s)) ≤ 60000
+made-bound {f = f} h s m =
     rw (m .made)
-    (let t = subtitleOf mode (s .first) (tokens (m .text)) in
-    omega (arith, paragraph-bound (paragraphOf t), pieces-bound mode (s .first) (tokens (m .text)) (m .rule)))
+    (let t = subtitleOf (f .mode) (s .first) (tokens (m .text)) in
+    omega (arith, paragraph-bound (paragraphOf f t), pieces-bound f (s .first) (tokens (m .text)) (m .rule) h))
 
--- the style lines: one for each of the 128 looks at most
+-- the style lines: one for each look at most
 keep-bound : {A : Type 0} (p : A → Bool) (xs : List A) → length (keep p xs) ≤ length xs
 unfolding keep
 keep-bound p [] = omega arith
 keep-bound p (x ∷ xs) =
     by-test (p x) (λ e. rw (e, keep) (omega (arith, keep-bound p xs))) (λ e. rw (e, keep) (omega (arith, keep-bound p xs)))
 
-looks-bound : (ps : List Paragraph) → length (looksUsed ps) ≤ 128
+looks-bound : (ps : List Paragraph) → length (looksUsed ps) ≤ lookCount
 unfolding looksUsed upFrom
-looks-bound ps = keep-bound (isUsed ps) (upFrom 128 0)
+looks-bound ps = keep-bound (isUsed ps) (upFrom lookCount 0)
 
 channel-bound : (bit : ℕ) → length (channel bit) ≤ 2
 unfolding channel bytes
@@ -308,31 +319,35 @@ elements-bound (b ∷ s) =
 
 -- an accepted file
 module _ (mode : ℕ) (file : List ℕ) (p : Progress) (c : outcome mode file ≡ accepted p) where
-  held : Held Any mode (rateOf file) (blockCount file) p
+  held : Held Any (formatOf mode file) (blockCount file) p
   held = rw c at (outcome-kept Any mode file (any-blocks _))
+
+  teletext-end : formatOf mode file .screen .end ≤ 24
+  unfolding formatOf teletext
+  teletext-end = omega arith
 
   pub subtitles-bound : length (p .subtitles) ≤ 99999
   subtitles-bound = omega (arith, held .few, tnb-bound mode file (rule-kept mode file p c))
 
-  pub paragraphs-bound : length (joinMap writeParagraph (map paragraphOf (p .subtitles))) ≤ 6000000000
+  pub paragraphs-bound : length (joinMap writeParagraph (map (paragraphOf (formatOf mode file)) (p .subtitles))) ≤ 6000000000
   paragraphs-bound =
       omega (
         arith,
         subtitles-bound,
-        join-bound writeParagraph 60000 (all-map paragraphOf made-bound (held .made)),
-        length-map (p .subtitles) paragraphOf,
+        join-bound writeParagraph 60000 (all-map (paragraphOf (formatOf mode file)) (made-bound teletext-end) (held .made)),
+        length-map (p .subtitles) (paragraphOf (formatOf mode file)),
       )
 
-  length-bound : length (render (documentOf (rateOf file) p)) ≤ 6000020000
+  length-bound : length (render (documentOf (formatOf mode file) p)) ≤ 6000020000
   unfolding documentOf
-  length-bound = omega (arith, paragraphs-bound, render-bound (documentOf (rateOf file) p))
+  length-bound = omega (arith, paragraphs-bound, render-bound (documentOf (formatOf mode file) p))
 
-  pub spans-bound : documentSpans (map paragraphOf (p .subtitles)) ≤ 6000020000
+  pub spans-bound : documentSpans (map (paragraphOf (formatOf mode file)) (p .subtitles)) ≤ 6000020000
   unfolding documentOf
   spans-bound =
-      let d = documentOf (rateOf file) p in
+      let d = documentOf (formatOf mode file) p in
       omega (arith, length-bound, elements-bound (render d), elements-are-spans d)
 
   -- below 2 ^ 40
-  pub document-bound : length (render (documentOf (rateOf file) p)) < 1099511627776
+  pub document-bound : length (render (documentOf (formatOf mode file) p)) < 1099511627776
   document-bound = omega (arith, length-bound)

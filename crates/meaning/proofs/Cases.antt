@@ -8,12 +8,14 @@ use lib.Dec.{T, eqb}
 use lib.ListN.{replicate}
 use Rattle.meaning.specs.declared.Answer.{Answer}
 use Rattle.meaning.specs.Lists.{all, joinMap, same, bytes}
+use Rattle.meaning.specs.declared.Format.{Format}
+use Rattle.meaning.specs.Gsi.{formatOf}
 use Rattle.meaning.specs.Sets.{Outcome, outcome}
 use Rattle.meaning.specs.Sets.Outcome.{refused, accepted}
 use Rattle.meaning.specs.Document.{Paragraph, writePiece, utf8}
-use Rattle.meaning.specs.Conversion.{documentOf, answer}
+use Rattle.meaning.specs.Conversion.{paragraphOf, answer}
 use Rattle.meaning.specs.Computed.{computed}
-use Rattle.meaning.proofs.Files.{Block, gsi, block, subtitle, blocksOf, fileOf, files}
+use Rattle.meaning.proofs.Files.{Block, gsi, block, subtitle, fileOf, files}
 
 -- a break mode and a file, the answer's number and place, and what stands in each paragraph
 record Case : Type 0 where
@@ -23,9 +25,9 @@ record Case : Type 0 where
   place : ℕ
   paragraphs : List String
 
-paragraphsIn : Outcome → List (List ℕ)
-paragraphsIn (refused n k) = []
-paragraphsIn (accepted p) = map (λ (q : Paragraph). joinMap writePiece (q .pieces)) (documentOf 25 p .paragraphs)
+paragraphsIn : Format → Outcome → List (List ℕ)
+paragraphsIn f (refused n k) = []
+paragraphsIn f (accepted p) = map (λ (q : Paragraph). joinMap writePiece (q .pieces)) (map (paragraphOf f) (p .subtitles))
 
 sameTexts : List (List ℕ) → List String → Bool
 sameTexts [] [] = true
@@ -39,7 +41,7 @@ sameAnswer a number place = eqb (a .number) number && eqb (a .place) place
 holds : Case → Bool
 holds c =
     sameAnswer (answer (c .mode) (c .file) 65536) (c .number) (c .place)
-    && sameTexts (paragraphsIn (outcome (c .mode) (c .file))) (c .paragraphs)
+    && sameTexts (paragraphsIn (formatOf (c .mode) (c .file)) (outcome (c .mode) (c .file))) (c .paragraphs)
 
 refusal : ℕ → List ℕ → ℕ → ℕ → Case
 refusal mode file number place = record { mode = mode; file = file; number = number; place = place; paragraphs = [] }

@@ -1,28 +1,29 @@
--- What holds of every cell of a text: a character that UTF-8 writes, and colours of three bits. Looks survive packing.
+-- What holds of every cell of a text: a character that UTF-8 writes, and colours of three bits.
 -- Assumes nothing.
-use Prim.Native.Nat.{ℕ, zero, suc, _+_, _*_, _/_, _%_, _<_}
+use Prim.Native.Nat.{ℕ, zero, suc, _+_, _*_, _<_}
 use native.Mathlib.Omega.{arith}
-use mathlib.Core.Path.{_≡_, refl}
+use mathlib.Core.Path.{_≡_, refl, ap}
 use mathlib.Core.Bool.{Bool, true, false}
 use mathlib.Core.List.{List, [], _∷_, _++_, map}
 use lib.Dec.{eqb, ltb}
 use lib.ListN.{getD}
-use borrow.Author.Tests.{ltb-true, eq-eqb, ne-eqb}
+use borrow.Author.Tests.{ltb-true}
 use Rattle.meaning.specs.declared.Token.{Token}
 use Rattle.meaning.specs.declared.Token.the-variants.{Character, Control, RowEnd, Unlisted}
 use Rattle.meaning.specs.declared.Look.{Look}
-use Rattle.meaning.specs.Lists.{all}
+use Rattle.meaning.specs.declared.Pen.{Pen}
+use Rattle.meaning.specs.Lists.{all, joinMap}
 use Rattle.meaning.specs.Tables.{latinTable, composedTable}
 use Rattle.meaning.specs.Characters.{latin, accent, letter, composed}
-use Rattle.meaning.specs.Codes.{isControl, characterOf, codeToken, pairToken, isAccent, tokens, isRowEnd}
+use Rattle.meaning.specs.Codes.{isControl, characterOf, codeToken, pairToken, isAccent, tokens, isRowEnd, takesCell}
 use Rattle.meaning.specs.Rows.{splitRows, breaksPaired, pairedFrom, rows}
-use Rattle.meaning.specs.Looks.{whiteOnBlack, pack, unpack}
-use Rattle.meaning.specs.Cells.{Cell, cellCharacter, controlHere, controlNext, lookHere, lookNext, cellsFrom, cells, isBlank}
-use Rattle.meaning.specs.Spans.{colourOf, lookOf, uniform, spansFrom, spans}
+use Rattle.meaning.specs.Cells.{Cell, points, glyphs, cellCharacter, controlHere, controlNext, lookHere, lookNext, newPen, cellOf, penAfter, cellsOf, cellsFrom, rowStart, penAfterRow, cellRows, isBlank}
+use Rattle.meaning.specs.Spans.{foregroundOf, lookOf, uniform, spansFrom, spans}
 use Rattle.meaning.specs.Profile.{isScalar}
-use Rattle.meaning.proofs.Logic.{by-test, by-number}
-use Rattle.meaning.proofs.ListLaws.{All, all-append, all-onto, all-map, test-split}
+use Rattle.meaning.proofs.Logic.{by-test}
+use Rattle.meaning.proofs.ListLaws.{All, all-append, all-onto, test-split}
 use Rattle.meaning.proofs.ListLaws.All.{nil, cons}
+use Rattle.meaning.proofs.LookLaws.{ThreeBits, white-bits, blend-bits}
 use Rattle.meaning.proofs.Tokens.{tokens-pair, tokens-code}
 
 -- the tables hold code points that UTF-8 writes, by one computed test
@@ -107,11 +108,6 @@ module _ {P : Token → Type 0} where
       (λ e. rw e (split-all (pairedFrom false ts) (paired-all false ts h)))
       (λ e. rw e (split-all ts h))
 
--- colours of three bits
-pub record ThreeBits (l : Look) : Type 0 where
-  pub background : l .background < 8
-  pub colour : l .colour < 8
-
 here-bits : (t : Token) (l : Look) → ThreeBits l → ThreeBits (lookHere t l)
 unfolding lookHere controlHere
 here-bits (Character p) l h = h
@@ -152,18 +148,41 @@ cell-scalar (Control c) h = refl
 cell-scalar RowEnd h = refl
 cell-scalar Unlisted h = refl
 
-cells-sound : (l : Look) (ts : List Token) → ThreeBits l → All Writable ts → All Sound (cellsFrom l ts)
+-- reading back the code points of cells gives their characters
+pub glyphs-points : {cs : List Cell} → All Sound cs → glyphs (joinMap points cs) ≡ map (λ (c : Cell). c .character) cs
+unfolding glyphs points joinMap
+glyphs-points nil = refl
+glyphs-points (cons {x = c} s h) = ap (λ (l : List ℕ). c .character ∷ l) (glyphs-points h)
+
+-- and they are such that UTF-8 writes
+pub points-scalar : {cs : List Cell} → All Sound cs → All (λ (p : ℕ). isScalar p ≡ true) (joinMap points cs)
+unfolding points joinMap
+points-scalar nil = nil
+points-scalar (cons s h) = cons (s .character) (points-scalar h)
+
+cell-sound : (t : Token) (p : Pen) → ThreeBits (p .look) → Writable t → All Sound (cellsOf t p)
+unfolding cellsOf cellOf
+cell-sound t p h v =
+    by-test (takesCell t) (λ e. rw e (cons (record { character = cell-scalar t v; look = here-bits t (p .look) h }) nil)) (λ e. rw e nil)
+
+cells-sound : (p : Pen) (ts : List Token) → ThreeBits (p .look) → All Writable ts → All Sound (cellsFrom p ts)
 unfolding cellsFrom
-cells-sound l [] h w = nil
-cells-sound l (t ∷ ts) h (cons v w) =
-    cons (record { character = cell-scalar t v; look = here-bits t l h }) (cells-sound (lookNext t l) ts (next-bits t l h) w)
+cells-sound p [] h w = nil
+cells-sound p (t ∷ ts) h (cons v w) =
+    all-append (cell-sound t p h v) (cells-sound (penAfter t p) ts (unfold penAfter in next-bits t (p .look) h) w)
+
+start-bits : (row : List Token) (p : Pen) → ThreeBits (rowStart row p .look)
+unfolding rowStart newPen
+start-bits row p = white-bits (p .look .double)
+
+rows-of : (p : Pen) {rs : List (List Token)} → All (All Writable) rs → All (All Sound) (cellRows p rs)
+unfolding cellRows
+rows-of p nil = nil
+rows-of p (cons {x = r} w h) = cons (cells-sound (rowStart r p) r (start-bits r p) w) (rows-of (penAfterRow p r) h)
 
 -- the cells of every row of a text
-pub rows-sound : (mode : ℕ) (double : Bool) (text : List ℕ) → All (All Sound) (map (cells double) (rows mode (tokens text)))
-unfolding cells whiteOnBlack
-rows-sound mode double text =
-    all-map (cells double) (λ r h. cells-sound _ r (record { background = omega arith; colour = omega arith }) h)
-    (rows-all mode (tokens text) (tokens-writable text))
+pub rows-sound : (mode : ℕ) (p : Pen) (text : List ℕ) → All (All Sound) (cellRows p (rows mode (tokens text)))
+rows-sound mode p text = rows-of p (rows-all mode (tokens text) (tokens-writable text))
 
 -- a property of all cells holds in every span
 module _ {P : Cell → Type 0} where
@@ -180,44 +199,14 @@ module _ {P : Cell → Type 0} where
   spans-all [] h = nil
   spans-all (c ∷ cs) (cons p h) = from-all (c ∷ []) cs (cons p nil) h
 
-colour-bits : (cs : List Cell) → All Sound cs → colourOf cs < 8
-unfolding colourOf
-colour-bits [] h = omega arith
-colour-bits (c ∷ cs) (cons p h) =
-    by-test (isBlank c) (λ e. rw (e, colourOf) (colour-bits cs h)) (λ e. rw (e, colourOf) (p .look .colour))
-
 -- the look of a span
+foreground-bits : (cs : List Cell) → All Sound cs → ThreeBits (foregroundOf cs)
+unfolding foregroundOf
+foreground-bits [] h = white-bits false
+foreground-bits (c ∷ cs) (cons p h) =
+    by-test (isBlank c) (λ e. rw (e, foregroundOf) (foreground-bits cs h)) (λ e. rw (e, foregroundOf) (p .look))
+
 pub span-bits : (cs : List Cell) → All Sound cs → ThreeBits (lookOf cs)
-unfolding lookOf whiteOnBlack
-span-bits [] h = record { background = omega arith; colour = omega arith }
-span-bits (c ∷ cs) (cons p h) = record { background = p .look .background; colour = colour-bits (c ∷ cs) (cons p h) }
-
-pub pack-small : (l : Look) → ThreeBits l → pack l < 128
-unfolding pack
-pack-small l h =
-    by-test (l .double)
-    (λ e. rw e (omega (arith, h .background, h .colour)))
-    (λ e. rw e (omega (arith, h .background, h .colour)))
-
--- unpacking what was packed
-module _ (l : Look) (h : ThreeBits l) where
-  pub back-double : unpack (pack l) .double ≡ l .double
-  unfolding unpack pack
-  back-double =
-      by-test (l .double)
-      (λ e. rw e (eq-eqb ((64 + 8 * l .background + l .colour) / 64 % 2) 1 (omega (arith, h .background, h .colour))))
-      (λ e. rw e (ne-eqb ((0 + 8 * l .background + l .colour) / 64 % 2) 1 (λ z. omega (arith, h .background, h .colour))))
-
-  pub back-background : unpack (pack l) .background ≡ l .background
-  unfolding unpack pack
-  back-background =
-      by-test (l .double)
-      (λ e. rw e (omega (arith, h .background, h .colour)))
-      (λ e. rw e (omega (arith, h .background, h .colour)))
-
-  pub back-colour : unpack (pack l) .colour ≡ l .colour
-  unfolding unpack pack
-  back-colour =
-      by-test (l .double)
-      (λ e. rw e (omega (arith, h .background, h .colour)))
-      (λ e. rw e (omega (arith, h .background, h .colour)))
+unfolding lookOf
+span-bits [] h = white-bits false
+span-bits (c ∷ cs) (cons p h) = blend-bits (c .look) (foregroundOf (c ∷ cs)) (p .look) (foreground-bits (c ∷ cs) (cons p h))

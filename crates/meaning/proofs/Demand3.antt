@@ -1,17 +1,16 @@
--- Demand 3, whole: the document in the buffer shows the file's rows, and no document of the profile that does has fewer spans.
+-- Demand 3, whole: the document in the buffer shows the file's rows, and no document that does has fewer spans.
 -- Assumes nothing.
 use Prim.Native.Nat.{ℕ, _≤_}
 use native.Mathlib.Omega.{arith}
-use mathlib.Core.Path.{_≡_, refl, sym, ap, _∙_}
-use mathlib.Core.List.{List, map}
-use lib.ListN.{length, take, drop}
+use mathlib.Core.Path.{_≡_, sym, ap, _∙_}
+use mathlib.Core.List.{List}
+use lib.ListN.{length, take}
 use Rattle.meaning.specs.declared.Answer.{Answer}
-use Rattle.meaning.specs.Gsi.{rateOf, blockCount}
-use Rattle.meaning.specs.Blocks.{blocks}
+use Rattle.meaning.specs.Gsi.{formatOf, blockCount}
+use Rattle.meaning.specs.declared.Format.{Format}
 use Rattle.meaning.specs.Sets.{Subtitle, Outcome, outcome, subtitlesOf}
-use Rattle.meaning.specs.Sets.Outcome.{accepted}
 use Rattle.meaning.specs.Document.{Document, render, documentSpans}
-use Rattle.meaning.specs.Conversion.{paragraphOf, documentOf, acceptance, answer, output}
+use Rattle.meaning.specs.Conversion.{documentOf, acceptance, answer, output}
 use Rattle.meaning.specs.Profile.{inProfile, Writes, Shows, spanElements}
 use Rattle.meaning.specs.Demands.{Bytes, FewestSpans}
 use Rattle.meaning.proofs.Logic.{and-true}
@@ -24,24 +23,24 @@ use Rattle.meaning.proofs.OwnRows.{SoundRows, own-shows}
 use Rattle.meaning.proofs.OwnProfile.{file-bytes, made-sound, own-paragraphs}
 use Rattle.meaning.proofs.Accepted.{Accepted, accepted-file, rule-kept, rate-right, front-is-document}
 
-all-sound : (mode rate : ℕ) {ss : List Subtitle} → All (Made Bytes mode rate) ss → All SoundRows ss
-all-sound mode rate nil = nil
-all-sound mode rate (cons m h) = cons (made-sound mode rate _ m) (all-sound mode rate h)
+all-sound : (f : Format) {ss : List Subtitle} → All (Made Bytes f) ss → All SoundRows ss
+all-sound f nil = nil
+all-sound f (cons m h) = cons (made-sound f _ m) (all-sound f h)
 
 module _ (mode : ℕ) (file : List ℕ) (b : Bytes file) (buffer : List ℕ) (e : answer mode file (length buffer) .number ≡ 0) where
   taken : Accepted Bytes mode file (file-bytes (blockCount file) 1024 file b) buffer
   taken = accepted-file Bytes mode file (file-bytes (blockCount file) 1024 file b) buffer e
 
   own : Document
-  own = documentOf (rateOf file) (taken .progress)
+  own = documentOf (formatOf mode file) (taken .progress)
 
   own-written : Writes (take (answer mode file (length buffer) .length) (output mode file buffer)) own
-  unfolding own inProfile documentOf
+  unfolding own inProfile documentOf formatOf
   own-written =
       record {
         profile =
             and-true _ _ (rate-right mode file (rule-kept mode file (taken .progress) (taken .came)))
-            (own-paragraphs mode (rateOf file) 0 _ (taken .progress .subtitles) (taken .held .made) (taken .held .order));
+            (own-paragraphs (formatOf mode file) 0 _ (taken .progress .subtitles) (taken .held .made) (taken .held .order));
         bytes = front-is-document taken;
       }
 
@@ -49,21 +48,21 @@ module _ (mode : ℕ) (file : List ℕ) (b : Bytes file) (buffer : List ℕ) (e 
   unfolding own documentOf subtitlesOf
   own-rows =
       rw (taken .came)
-      (own-shows (rateOf file) (taken .progress .subtitles) (all-sound mode (rateOf file) (taken .held .made)))
+      (own-shows (formatOf mode file) (taken .progress .subtitles) (all-sound (formatOf mode file) (taken .held .made)))
 
   own-count : answer mode file (length buffer) .spans ≡ documentSpans (own .paragraphs)
   unfolding own acceptance
   own-count = ap (λ (a : Answer). a .spans) (taken .answered)
 
-  others : (other : List ℕ) (d : Document) → Writes other d → Shows d (subtitlesOf (outcome mode file)) → answer mode file (length buffer) .spans ≤ spanElements other
+  others : (other : List ℕ) (d : Document) → other ≡ render d → Shows d (subtitlesOf (outcome mode file)) → answer mode file (length buffer) .spans ≤ spanElements other
   unfolding own documentOf subtitlesOf
   others other d w s =
       let t : Shows d (taken .progress .subtitles) = rw (taken .came) at s in
       omega (
         arith,
         own-count,
-        document-fewest d (taken .progress .subtitles) t,
-        ap spanElements (w .bytes) ∙ elements-are-spans d,
+        document-fewest (formatOf mode file) d (taken .progress .subtitles) t,
+        ap spanElements w ∙ elements-are-spans d,
       )
 
   pub fewest-spans : FewestSpans mode file (answer mode file (length buffer)) (output mode file buffer)

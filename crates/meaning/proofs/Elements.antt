@@ -7,11 +7,11 @@ use mathlib.Core.Path.{_≡_, refl, sym, ap, _∙_}
 use mathlib.Core.Bool.{Bool, true, false, cond}
 use mathlib.Core.List.{List, [], _∷_, _++_, append-assoc, append-nil}
 use lib.Dec.{ltb, eqb}
+use lib.ListN.{length-append}
 use borrow.Author.Tests.{ne-eqb, eqb-false}
-use Rattle.meaning.specs.Lists.{joinMap, joined, keep, bytes}
-use Rattle.meaning.specs.Looks.{unpack}
-use Rattle.meaning.specs.Blocks.{Time}
-use Rattle.meaning.specs.Document.{Span, Piece, Alignment, Paragraph, Document, digits, withoutZeros, decimal, utf8, escaped, styleName, writeSpan, writePiece, writeTime, alignmentName, writeParagraph, channel, colourName, sizeName, writeStyle, looksUsed, beforeRate, beforeStyles, beforeParagraphs, afterParagraphs, render, countSpans, documentSpans}
+use Rattle.meaning.specs.Lists.{joinMap, joined, bytes}
+use Rattle.meaning.specs.declared.Time.{Time}
+use Rattle.meaning.specs.Document.{Span, Piece, Alignment, Paragraph, Document, digits, withoutZeros, decimal, utf8, escaped, styleName, writeSpan, writePiece, writeTime, alignmentName, writeParagraph, channel, colourName, sizeName, writeStyle, looksUsed, beforeRate, beforeStyles, beforeParagraphs, afterParagraphs, render, looksOf, documentLooks, countSpans, documentSpans}
 use Rattle.meaning.specs.Document.Piece.{span, br}
 use Rattle.meaning.specs.Document.Alignment.{left, centre, right}
 use Rattle.meaning.specs.Profile.{startsWith, spanElements}
@@ -125,7 +125,7 @@ in-span s =
     & fixed (bytes "</tt:span>") (λ s. refl)
 
 in-pieces : (ps : List Piece) → Holds (countSpans ps) (joinMap writePiece ps)
-unfolding joinMap countSpans writePiece spanElements startsWith bytes
+unfolding joinMap countSpans looksOf writePiece spanElements startsWith bytes
 in-pieces [] = nothing
 in-pieces (span s ∷ ps) = num (omega arith) (in-span s & in-pieces ps)
 in-pieces (br ∷ ps) = num (omega arith) (fixed (bytes "<tt:br/>") (λ s. refl) & in-pieces ps)
@@ -152,9 +152,9 @@ in-paragraph p =
     & fixed (bytes "\">") (λ s. refl) & in-pieces (p .pieces) & fixed (bytes "</tt:p>\n") (λ s. refl))
 
 in-paragraphs : (ps : List Paragraph) → Holds (documentSpans ps) (joinMap writeParagraph ps)
-unfolding joinMap documentSpans
+unfolding joinMap documentSpans documentLooks countSpans
 in-paragraphs [] = nothing
-in-paragraphs (p ∷ ps) = in-paragraph p & in-paragraphs ps
+in-paragraphs (p ∷ ps) = num (sym (length-append (looksOf (p .pieces)) (documentLooks ps))) (in-paragraph p & in-paragraphs ps)
 
 -- one of two fixed texts
 either : (b : Bool) (x y : List ℕ) → Holds 0 x → Holds 0 y → Holds 0 (cond b x y)

@@ -8,7 +8,7 @@ use mathlib.Core.List.{List, [], _∷_, _++_, map}
 use lib.ListN.{length}
 use Rattle.meaning.specs.declared.Look.{Look}
 use Rattle.meaning.specs.Looks.{unpack}
-use Rattle.meaning.specs.Cells.{Cell, isBlankOnBlack, trimFront, beforeTrimmed, trimBack, shown}
+use Rattle.meaning.specs.Cells.{Cell, glyphs, isBlankOnBlack, trimFront, beforeTrimmed, trimBack, shown}
 use Rattle.meaning.specs.Spans.{uniform, spansFrom, spans}
 use Rattle.meaning.specs.Document.{Span}
 use Rattle.meaning.specs.Profile.{spanCells, rowCells, SameCell, SameCells}
@@ -17,7 +17,7 @@ use Rattle.meaning.proofs.Logic.{by-test}
 use Rattle.meaning.proofs.ListLaws.{All, all-append}
 use Rattle.meaning.proofs.ListLaws.All.{nil, cons}
 use Rattle.meaning.proofs.Fitting.{Fits, uniform-end, fits-own}
-use Rattle.meaning.proofs.Trimming.{front-cut, front-kept, last-cut, last-kept, shown-nil, same-blank}
+use Rattle.meaning.proofs.Trimming.{front-cut, front-kept, last-cut, last-kept, shown-nil, same-blanks}
 
 -- cells that follow in an open span of look l, and then in n spans more
 data Cover : Look → List Cell → ℕ → Type 0 where
@@ -72,11 +72,7 @@ cover-shown cs k = cover-back (cover-front cs k)
 -- a cover of a document's cells covers the file's
 same-fits : {l : Look} {c d : Cell} → SameCell c d → Fits l d → Fits l c
 same-fits s f =
-    record {
-      double = s .double ∙ f .double;
-      background = s .background ∙ f .background;
-      colour = λ e. s .colour e ∙ f .colour (sym (same-blank s) ∙ e);
-    }
+    record { shares = s .shares ∙ f .shares; agrees = λ e. s .agrees e ∙ f .agrees (sym (same-blanks s) ∙ e) }
 
 cover-same : {l : Look} {cs ds : List Cell} {n : ℕ} → Cover l ds n → SameCells cs ds → Cover l cs n
 cover-same done none = done
@@ -93,7 +89,7 @@ cover-span l (p ∷ ps) rest n k = more (fits-own _) (cover-span l ps rest n k)
 cover-row : (l : Look) (ss : List Span) → Cover l (rowCells ss) (length ss)
 unfolding rowCells spanCells
 cover-row l [] = done
-cover-row l (s ∷ ss) = next (cover-span (unpack (s .look)) (s .characters) (rowCells ss) (length ss) (cover-row (unpack (s .look)) ss))
+cover-row l (s ∷ ss) = next (cover-span (unpack (s .look)) (glyphs (s .characters)) (rowCells ss) (length ss) (cover-row (unpack (s .look)) ss))
 
 -- a cover that starts anew has a span for its first cell
 first-covered : {l : Look} {c : Cell} {cs : List Cell} {n : ℕ} → Cover l (c ∷ cs) n → length (spansFrom (c ∷ []) cs) ≤ suc n
@@ -116,5 +112,5 @@ row-fewest cs (s ∷ ss) r =
     spans-le cs
     (cover-same
     (cover-shown _
-    (cover-span (unpack (s .look)) (s .characters) (rowCells ss) (length ss) (cover-row (unpack (s .look)) ss)))
+    (cover-span (unpack (s .look)) (glyphs (s .characters)) (rowCells ss) (length ss) (cover-row (unpack (s .look)) ss)))
     r)

@@ -4,12 +4,13 @@ use Prim.Native.Nat.{ℕ, zero, suc, _+_, _≤_}
 use native.Mathlib.Omega.{arith}
 use mathlib.Core.Path.{_≡_, refl, sym, ap, _∙_}
 use mathlib.Core.List.{List, [], _∷_, _++_, map}
-use lib.ListN.{length, getD, replicate, length-map}
-use Rattle.meaning.specs.Lists.{ontoFirst}
+use lib.ListN.{length, getD, replicate, length-append, length-map}
+use Rattle.meaning.specs.declared.Format.{Format}
+use Rattle.meaning.specs.Lists.{ontoFirst, joinMap}
 use Rattle.meaning.specs.Cells.{Cell, shown}
 use Rattle.meaning.specs.Spans.{spans}
 use Rattle.meaning.specs.Sets.{Subtitle}
-use Rattle.meaning.specs.Document.{Span, Piece, Paragraph, Document, countSpans, documentSpans}
+use Rattle.meaning.specs.Document.{Span, Piece, Paragraph, Document, looksOf, documentLooks, countSpans, documentSpans}
 use Rattle.meaning.specs.Document.Piece.{span, br}
 use Rattle.meaning.specs.Conversion.{spanOf, rowSpans, laterRows, rowPieces, paragraphOf}
 use Rattle.meaning.specs.Profile.{documentRows, rowCells, SameCells, subtitleRow, paragraphRow, Shows}
@@ -36,14 +37,22 @@ ours row = length (spans (shown row))
 theirs : List Span → ℕ
 theirs ss = length ss
 
-pub count-append : (ps qs : List Piece) → countSpans (ps ++ qs) ≡ countSpans ps + countSpans qs
+pub looks-append : (ps qs : List Piece) → looksOf (ps ++ qs) ≡ looksOf ps ++ looksOf qs
+unfolding looksOf
+looks-append [] qs = refl
+looks-append (span s ∷ ps) qs = ap (λ (ls : List ℕ). s .look ∷ ls) (looks-append ps qs)
+looks-append (br ∷ ps) qs = looks-append ps qs
+
+count-append : (ps qs : List Piece) → countSpans (ps ++ qs) ≡ countSpans ps + countSpans qs
 unfolding countSpans
-count-append [] qs = omega arith
-count-append (span s ∷ ps) qs = omega (arith, count-append ps qs)
-count-append (br ∷ ps) qs = count-append ps qs
+count-append ps qs = ap length (looks-append ps qs) ∙ length-append (looksOf ps) (looksOf qs)
+
+count-cons : (p : Paragraph) (ps : List Paragraph) → documentSpans (p ∷ ps) ≡ countSpans (p .pieces) + documentSpans ps
+unfolding countSpans documentSpans documentLooks joinMap
+count-cons p ps = length-append (looksOf (p .pieces)) (documentLooks ps)
 
 count-map : (ss : List Span) → countSpans (map span ss) ≡ length ss
-unfolding countSpans
+unfolding countSpans looksOf
 count-map [] = refl
 count-map (s ∷ ss) = ap suc (count-map ss)
 
@@ -52,30 +61,30 @@ unfolding rowSpans ours
 count-row row = count-map (map spanOf (spans (shown row))) ∙ length-map (spans (shown row)) spanOf
 
 count-later : (rs : List (List Cell)) → countSpans (laterRows rs) ≡ sum ours rs
-unfolding laterRows countSpans sum
+unfolding laterRows countSpans looksOf sum
 count-later [] = refl
 count-later (r ∷ rs) = omega (arith, count-append (map span (rowSpans r)) (laterRows rs), count-row r, count-later rs)
 
 count-rows : (rs : List (List Cell)) → countSpans (rowPieces rs) ≡ sum ours rs
-unfolding rowPieces countSpans sum
+unfolding rowPieces countSpans looksOf sum
 count-rows [] = refl
 count-rows (r ∷ rs) = omega (arith, count-append (map span (rowSpans r)) (laterRows rs), count-row r, count-later rs)
 
 count-breaks : (n : ℕ) → countSpans (replicate n br) ≡ 0
-unfolding countSpans
+unfolding countSpans looksOf
 count-breaks zero = refl
 count-breaks (suc n) = count-breaks n
 
 count-filled : (rs : List (List Cell)) (n : ℕ) → countSpans (rowPieces rs ++ replicate n br) ≡ sum ours rs
 count-filled rs n = omega (arith, count-append (rowPieces rs) (replicate n br), count-rows rs, count-breaks n)
 
-count-subtitle : (s : Subtitle) → countSpans (paragraphOf s .pieces) ≡ sum ours (s .rows)
-count-subtitle s = ap countSpans (pieces-are s) ∙ count-filled (s .rows) (fillersOf s)
+count-subtitle : (f : Format) (s : Subtitle) → countSpans (paragraphOf f s .pieces) ≡ sum ours (s .rows)
+count-subtitle f s = ap countSpans (pieces-are f s) ∙ count-filled (s .rows) (fillersOf f s)
 
-count-subtitles : (ss : List Subtitle) → documentSpans (map paragraphOf ss) ≡ sum (sum ours) (map (λ (s : Subtitle). s .rows) ss)
-unfolding documentSpans sum
-count-subtitles [] = refl
-count-subtitles (s ∷ ss) = omega (arith, count-subtitle s, count-subtitles ss)
+count-subtitles : (f : Format) (ss : List Subtitle) → documentSpans (map (paragraphOf f) ss) ≡ sum (sum ours) (map (λ (s : Subtitle). s .rows) ss)
+unfolding sum
+count-subtitles f [] = unfold documentSpans documentLooks joinMap in refl
+count-subtitles f (s ∷ ss) = omega (arith, count-cons (paragraphOf f s) (map (paragraphOf f) ss), count-subtitle f s, count-subtitles f ss)
 
 -- a document's spans, row by row
 count-onto : (s : Span) (rs : List (List Span)) → sum theirs (ontoFirst s rs) ≡ suc (sum theirs rs)
@@ -84,15 +93,15 @@ count-onto s [] = refl
 count-onto s (r ∷ rs) = omega arith
 
 count-pieces : (ps : List Piece) → countSpans ps ≡ sum theirs (documentRows ps)
-unfolding countSpans documentRows sum theirs
+unfolding countSpans looksOf documentRows sum theirs
 count-pieces [] = refl
 count-pieces (span s ∷ ps) = ap suc (count-pieces ps) ∙ sym (count-onto s (documentRows ps))
 count-pieces (br ∷ ps) = omega (arith, count-pieces ps)
 
 count-paragraphs : (ps : List Paragraph) → documentSpans ps ≡ sum (sum theirs) (map (λ (p : Paragraph). documentRows (p .pieces)) ps)
-unfolding documentSpans sum
-count-paragraphs [] = refl
-count-paragraphs (p ∷ ps) = omega (arith, count-pieces (p .pieces), count-paragraphs ps)
+unfolding sum
+count-paragraphs [] = unfold documentSpans documentLooks joinMap in refl
+count-paragraphs (p ∷ ps) = omega (arith, count-cons p ps, count-pieces (p .pieces), count-paragraphs ps)
 
 sums-le :
     (xs : List (List (List Cell))) (ys : List (List (List Span)))
@@ -105,12 +114,12 @@ sums-le xs ys h =
     sum-le ours theirs [] [] refl (getD xs k []) (getD ys k [])
     (λ i. row-fewest (shown (getD (getD xs k []) i [])) (getD (getD ys k []) i []) (h k i)))
 
-pub document-fewest : (d : Document) (ss : List Subtitle) → Shows d ss → documentSpans (map paragraphOf ss) ≤ documentSpans (d .paragraphs)
+pub document-fewest : (f : Format) (d : Document) (ss : List Subtitle) → Shows d ss → documentSpans (map (paragraphOf f) ss) ≤ documentSpans (d .paragraphs)
 unfolding Shows subtitleRow paragraphRow
-document-fewest d ss h =
+document-fewest f d ss h =
     omega (
       arith,
-      count-subtitles ss,
+      count-subtitles f ss,
       count-paragraphs (d .paragraphs),
       sums-le (map (λ (s : Subtitle). s .rows) ss) (map (λ (p : Paragraph). documentRows (p .pieces)) (d .paragraphs)) h,
     )

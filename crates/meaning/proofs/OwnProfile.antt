@@ -1,35 +1,36 @@
 -- The document made of an accepted file's subtitles is one of the profile, for a file of bytes.
 -- Assumes nothing.
-use Prim.Native.Nat.{ℕ, zero, suc, _+_, _*_, _≤_, _<_}
+use Prim.Native.Nat.{ℕ, zero, suc, _<_}
 use native.Mathlib.Omega.{arith}
 use mathlib.Core.Path.{_≡_, refl}
-use mathlib.Core.Bool.{Bool, true, false, _&&_}
-use mathlib.Core.List.{List, [], _∷_, _++_, map}
-use lib.Dec.{ltb, leb}
-use lib.ListN.{getD, take, drop, replicate}
-use lib.Seq.{getD-drop, getD-take}
+use mathlib.Core.Bool.{Bool, true, false}
+use mathlib.Core.List.{List, [], _∷_, map}
+use lib.ListN.{take, drop}
 use borrow.Author.Tests.{lt-ltb, le-leb}
 use Rattle.meaning.specs.Lists.{all}
-use Rattle.meaning.specs.Looks.{pack}
+use Rattle.meaning.specs.Looks.{lookCount, pack}
 use Rattle.meaning.specs.Codes.{tokens}
 use Rattle.meaning.specs.Rows.{isDouble}
-use Rattle.meaning.specs.Cells.{Cell, shown}
-use Rattle.meaning.specs.Spans.{spans, lookOf}
-use Rattle.meaning.specs.Blocks.{blocks, sn, tci, tco, timesRight, isComment, firstBlockRule}
+use Rattle.meaning.specs.Cells.{Cell, newPen, shown}
+use Rattle.meaning.specs.Spans.{lookOf}
+use Rattle.meaning.specs.Blocks.{blocks, headerOf, timesRight, isComment, firstBlockRule}
+use Rattle.meaning.specs.declared.Header.{Header}
+use Rattle.meaning.specs.declared.Format.{Format}
 use Rattle.meaning.specs.Sets.{Subtitle, subtitleOf}
 use Rattle.meaning.specs.Document.{Piece, Paragraph}
 use Rattle.meaning.specs.Document.Piece.{span, br}
 use Rattle.meaning.specs.Conversion.{spanOf, rowSpans, laterRows, rowPieces, paragraphOf}
 use Rattle.meaning.specs.Profile.{isScalar, pieceInProfile, paragraphsInProfile}
 use Rattle.meaning.specs.Demands.{Bytes}
-use Rattle.meaning.proofs.Logic.{and-true, and-parts}
+use Rattle.meaning.proofs.Logic.{and-true}
 use Rattle.meaning.proofs.ListLaws.{All, all-append, all-copies, all-map, test-all, unbroken}
 use Rattle.meaning.proofs.ListLaws.All.{nil, cons}
 use Rattle.meaning.proofs.Pieces.{fillersOf, pieces-are}
 use Rattle.meaning.proofs.Trimming.{all-shown}
-use Rattle.meaning.proofs.CellFacts.{Sound, rows-sound, spans-all, span-bits, pack-small}
+use Rattle.meaning.proofs.CellFacts.{Sound, points-scalar, rows-sound, spans-all, span-bits}
+use Rattle.meaning.proofs.LookLaws.{pack-small}
 use Rattle.meaning.proofs.OwnRows.{SoundRows}
-use Rattle.meaning.proofs.Walk.{Made, Ascends}
+use Rattle.meaning.proofs.Walk.{Opened, Made, Ascends}
 
 -- blocks of a file of bytes are of bytes
 drop-bytes : (n : ℕ) (s : List ℕ) → Bytes s → Bytes (drop n s)
@@ -55,12 +56,9 @@ file-bytes n k s h = blocks-bytes n (drop k s) (drop-bytes k s h)
 abbrev InProfile : Piece → Type 0
 InProfile p = pieceInProfile p ≡ true
 
-characters-right : {g : List Cell} → All Sound g → all isScalar (map (λ (c : Cell). c .character) g) ≡ true
-characters-right h = test-all isScalar (all-map (λ (c : Cell). c .character) (λ c s. s .character) h)
-
 span-right : (g : List Cell) → All Sound g → InProfile (span (spanOf g))
 unfolding pieceInProfile spanOf
-span-right g h = and-true _ _ (lt-ltb (pack (lookOf g)) 128 (pack-small (lookOf g) (span-bits g h))) (characters-right h)
+span-right g h = and-true _ _ (lt-ltb (pack (lookOf g)) lookCount (pack-small (lookOf g) (span-bits g h))) (test-all isScalar (points-scalar h))
 
 row-right : (row : List Cell) → All Sound row → All InProfile (map span (rowSpans row))
 unfolding rowSpans
@@ -80,37 +78,40 @@ br-right : InProfile br
 unfolding pieceInProfile
 br-right = refl
 
-pieces-right : (s : Subtitle) → SoundRows s → all pieceInProfile (paragraphOf s .pieces) ≡ true
-pieces-right s h = rw (pieces-are s) (test-all pieceInProfile (all-append (rows-right h) (all-copies (fillersOf s) br br-right)))
+pieces-right : (f : Format) (s : Subtitle) → SoundRows s → all pieceInProfile (paragraphOf f s .pieces) ≡ true
+pieces-right f s h = rw (pieces-are f s) (test-all pieceInProfile (all-append (rows-right h) (all-copies (fillersOf f s) br br-right)))
 
 -- rule 11
 times-right :
-    (rate least : ℕ) (b : List ℕ) → isComment b ≡ false → firstBlockRule rate least b ≡ 0 → timesRight rate (tci b) (tco b) ≡ true
+    (f : Format) (least : ℕ) (h : Header) → isComment h ≡ false → firstBlockRule f least h ≡ 0 → timesRight (f .rate) (h .tci) (h .tco) ≡ true
 unfolding firstBlockRule
-times-right rate least b c e =
+times-right f least h c e =
     let r₈ = unbroken _ _ _ e in
     let r₉ = unbroken _ _ _ (r₈ .1) in
     let r₁₀ = unbroken _ _ _ (rw c at (r₉ .1)) in
     unbroken _ _ _ (r₁₀ .1) .0
 
-sn-right : (b : List ℕ) → Bytes b → sn b < 65536
-unfolding sn
+sn-right : (b : List ℕ) → Bytes b → headerOf b .sn < 65536
+unfolding headerOf
 sn-right b h = omega (arith, h 1, h 2)
 
-pub made-sound : (mode rate : ℕ) (s : Subtitle) → Made Bytes mode rate s → SoundRows s
+opened-sn : {f : Format} {h : Header} → Opened Bytes f h → h .sn < 65536
+opened-sn o = rw (o .header) (sn-right (o .bytes) (o .block))
+
+pub made-sound : (f : Format) (s : Subtitle) → Made Bytes f s → SoundRows s
 unfolding subtitleOf
-made-sound mode rate s m = rw (m .made) (rows-sound mode (isDouble (tokens (m .text))) (m .text))
+made-sound f s m = rw (m .made) (rows-sound (f .mode) (newPen (isDouble (tokens (m .text)))) (m .text))
 
 pub own-paragraphs :
-    (mode rate lo hi : ℕ) (ss : List Subtitle) → All (Made Bytes mode rate) ss → Ascends lo ss hi
-    → paragraphsInProfile rate lo (map paragraphOf ss) ≡ true
+    (f : Format) (lo hi : ℕ) (ss : List Subtitle) → All (Made Bytes f) ss → Ascends lo ss hi
+    → paragraphsInProfile (f .rate) lo (map (paragraphOf f) ss) ≡ true
 unfolding paragraphsInProfile paragraphOf
-own-paragraphs mode rate lo hi [] k a = refl
-own-paragraphs mode rate lo hi (s ∷ ss) (cons m k) a =
+own-paragraphs f lo hi [] k a = refl
+own-paragraphs f lo hi (s ∷ ss) (cons m k) a =
     and-true _ _
     (and-true _ _
     (and-true _ _
-    (and-true _ _ (le-leb lo (sn (s .first)) (a .0)) (lt-ltb (sn (s .first)) 65536 (sn-right (s .first) (m .opened .block))))
-    (times-right rate (m .opened .least) (s .first) (m .subtitle) (m .opened .rule)))
-    (pieces-right s (made-sound mode rate s m)))
-    (own-paragraphs mode rate _ hi ss k (a .1))
+    (and-true _ _ (le-leb lo (s .first .sn) (a .0)) (lt-ltb (s .first .sn) 65536 (opened-sn (m .opened))))
+    (times-right f (m .opened .least) (s .first) (m .subtitle) (m .opened .rule)))
+    (pieces-right f s (made-sound f s m)))
+    (own-paragraphs f _ hi ss k (a .1))

@@ -6,8 +6,9 @@ use mathlib.Core.Bool.{true, false}
 use mathlib.Core.List.{List, [], _∷_, _++_, map, append-assoc}
 use lib.ListN.{getD, replicate}
 use Rattle.meaning.specs.declared.Look.{Look}
+use Rattle.meaning.specs.declared.Format.{Format}
 use Rattle.meaning.specs.Lists.{all, ontoFirst}
-use Rattle.meaning.specs.Looks.{pack, unpack}
+use Rattle.meaning.specs.Looks.{pack, unpack, shared, free}
 use Rattle.meaning.specs.Cells.{Cell, shown}
 use Rattle.meaning.specs.Spans.{fits, lookOf, uniform, spansFrom, spans}
 use Rattle.meaning.specs.Sets.{Subtitle}
@@ -22,7 +23,8 @@ use Rattle.meaning.proofs.ListLaws.All.{nil, cons}
 use Rattle.meaning.proofs.Pieces.{fillersOf, pieces-are}
 use Rattle.meaning.proofs.Fitting.{Fits, all-say, one-uniform}
 use Rattle.meaning.proofs.Trimming.{shown-nil, shown-twice, same-shown, all-shown}
-use Rattle.meaning.proofs.CellFacts.{ThreeBits, Sound, span-bits, back-double, back-background, back-colour}
+use Rattle.meaning.proofs.LookLaws.{ThreeBits, unpack-pack}
+use Rattle.meaning.proofs.CellFacts.{Sound, glyphs-points, span-bits}
 
 -- spans: together they are the cells, and each is uniform
 flat : List (List Cell) → List Cell
@@ -61,12 +63,8 @@ spans-uniform (c ∷ cs) = from-uniform (c ∷ []) cs (one-uniform c)
 -- a cell that fits a look is the same as its character under that look, packed and unpacked
 fits-same : (l : Look) (c : Cell) → ThreeBits l → Fits l c → SameCell c (record { character = c .character; look = unpack (pack l) })
 fits-same l c h f =
-    record {
-      character = refl;
-      background = f .background ∙ sym (back-background l h);
-      double = f .double ∙ sym (back-double l h);
-      colour = λ e. f .colour e ∙ sym (back-colour l h);
-    }
+    let b = unpack-pack l h in
+    record { character = refl; shares = f .shares ∙ sym (ap shared b); agrees = λ e. f .agrees e ∙ sym (ap free b) }
 
 span-same :
     (l : Look) {g : List Cell} (cs ds : List Cell) → ThreeBits l → All (Fits l) g → SameCells cs ds
@@ -78,8 +76,9 @@ spans-same : (gs : List (List Cell)) → All Uniform gs → All Sound (flat gs) 
 unfolding flat rowCells spanCells spanOf uniform
 spans-same [] u h = none
 spans-same (g ∷ gs) (cons u us) h =
-    span-same (lookOf g) (flat gs) _ (span-bits g (all-left g (flat gs) h)) (all-say (lookOf g) g u)
-    (spans-same gs us (all-right g (flat gs) h))
+    let k = all-left g (flat gs) h in
+    rw (glyphs-points k)
+    (span-same (lookOf g) (flat gs) _ (span-bits g k) (all-say (lookOf g) g u) (spans-same gs us (all-right g (flat gs) h)))
 
 row-same : (row : List Cell) → All Sound row → SameCells (shown row) (rowCells (rowSpans row))
 unfolding rowSpans
@@ -132,23 +131,23 @@ pieces-at (r ∷ rs) n i =
     ∙ spans-then (rowSpans r) _ _ (later-then rs n))
     ∙ rows-at (r ∷ rs) n i
 
-paragraph-at : (s : Subtitle) (i : ℕ) → getD (documentRows (paragraphOf s .pieces)) i [] ≡ rowSpans (getD (s .rows) i [])
-paragraph-at s i = rw (pieces-are s) (pieces-at (s .rows) (fillersOf s) i)
+paragraph-at : (f : Format) (s : Subtitle) (i : ℕ) → getD (documentRows (paragraphOf f s .pieces)) i [] ≡ rowSpans (getD (s .rows) i [])
+paragraph-at f s i = rw (pieces-are f s) (pieces-at (s .rows) (fillersOf f s) i)
 
 abbrev pub SoundRows : Subtitle → Type 0
 SoundRows s = All (All Sound) (s .rows)
 
 rows-show :
-    (ss : List Subtitle) → All SoundRows ss → (k i : ℕ)
-    → SameCells (shown (subtitleRow ss k i)) (shown (rowCells (paragraphRow (map paragraphOf ss) k i)))
+    (f : Format) (ss : List Subtitle) → All SoundRows ss → (k i : ℕ)
+    → SameCells (shown (subtitleRow ss k i)) (shown (rowCells (paragraphRow (map (paragraphOf f) ss) k i)))
 unfolding subtitleRow paragraphRow
-rows-show [] h k i = unfold rowCells in rw shown-nil none
-rows-show (s ∷ ss) (cons p h) zero i =
+rows-show f [] h k i = unfold rowCells in rw shown-nil none
+rows-show f (s ∷ ss) (cons p h) zero i =
     subst (λ (l : List Span). SameCells (shown (getD (s .rows) i [])) (shown (rowCells l)))
-    (sym (paragraph-at s i))
+    (sym (paragraph-at f s i))
     (row-shows (getD (s .rows) i []) (all-at p [] nil i))
-rows-show (s ∷ ss) (cons p h) (suc k) i = rows-show ss h k i
+rows-show f (s ∷ ss) (cons p h) (suc k) i = rows-show f ss h k i
 
-pub own-shows : (rate : ℕ) (ss : List Subtitle) → All SoundRows ss → Shows (record { rate = rate; paragraphs = map paragraphOf ss }) ss
+pub own-shows : (f : Format) (ss : List Subtitle) → All SoundRows ss → Shows (record { rate = f .rate; paragraphs = map (paragraphOf f) ss }) ss
 unfolding Shows
-own-shows rate ss h k i = rows-show ss h k i
+own-shows f ss h k i = rows-show f ss h k i

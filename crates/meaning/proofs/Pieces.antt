@@ -5,15 +5,16 @@ use mathlib.Core.Path.{_≡_, refl}
 use mathlib.Core.List.{_++_}
 use lib.ListN.{replicate}
 use Rattle.meaning.specs.Rows.{linesOf, rowCount}
-use Rattle.meaning.specs.Blocks.{vp}
+use Rattle.meaning.specs.declared.Header.{Header}
+use Rattle.meaning.specs.declared.Format.{Format}
 use Rattle.meaning.specs.Sets.{Subtitle}
 use Rattle.meaning.specs.Document.{Paragraph}
 use Rattle.meaning.specs.Document.Piece.{br}
 use Rattle.meaning.specs.Conversion.{rowPieces, fillers, pieces, paragraphOf}
 
-abbrev pub fillersOf : Subtitle → ℕ
-fillersOf s = fillers (vp (s .first)) (linesOf (s .double) (rowCount (s .rows))) .0
+abbrev pub fillersOf : Format → Subtitle → ℕ
+fillersOf f s = fillers (f .screen .end) (s .first .vp) (linesOf (s .double) (rowCount (s .rows))) .0
 
-pub pieces-are : (s : Subtitle) → paragraphOf s .pieces ≡ rowPieces (s .rows) ++ replicate (fillersOf s) br
+pub pieces-are : (f : Format) (s : Subtitle) → paragraphOf f s .pieces ≡ rowPieces (s .rows) ++ replicate (fillersOf f s) br
 unfolding paragraphOf pieces
-pieces-are s = refl
+pieces-are f s = refl

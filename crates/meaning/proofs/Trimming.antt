@@ -7,6 +7,7 @@ use Rattle.meaning.specs.Cells.{Cell, isBlank, isBlankOnBlack, trimFront
 use Rattle.meaning.specs.Profile.{SameCell, SameCells}
 use Rattle.meaning.specs.Profile.SameCells.{none, both}
 use Rattle.meaning.proofs.Logic.{by-test}
+use Rattle.meaning.proofs.LookLaws.{same-blank, same-on-black}
 use Rattle.meaning.proofs.ListLaws.{All}
 use Rattle.meaning.proofs.ListLaws.All.{nil, cons}
 
@@ -57,13 +58,12 @@ unfolding shown trimFront trimBack
 shown-nil = refl
 
 -- cells that are the same are shown alike
-pub same-blank : {c d : Cell} → SameCell c d → isBlank c ≡ isBlank d
-unfolding isBlank
-same-blank s = rw (s .character)
+pub same-blanks : {c d : Cell} → SameCell c d → isBlank c ≡ isBlank d
+same-blanks {c} {d} s = same-blank c d (s .character) (s .shares)
 
 same-cut : {c d : Cell} → SameCell c d → isBlankOnBlack c ≡ isBlankOnBlack d
 unfolding isBlankOnBlack
-same-cut s = rw (same-blank s, s .background)
+same-cut {c} {d} s = rw (same-blanks s, same-on-black (c .look) (d .look) (s .shares))
 
 same-front : {cs ds : List Cell} → SameCells cs ds → SameCells (trimFront cs) (trimFront ds)
 same-front none = unfold trimFront in none

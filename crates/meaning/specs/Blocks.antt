@@ -5,6 +5,10 @@ use mathlib.Core.Bool.{Bool, true, false, cond, _&&_}
 use mathlib.Core.List.{List, [], _∷_}
 use lib.Dec.{ltb, leb, eqb}
 use lib.ListN.{getD, take, drop}
+use Rattle.meaning.specs.declared.Time.{Time}
+use Rattle.meaning.specs.declared.Header.{Header}
+use Rattle.meaning.specs.declared.Screen.{Screen}
+use Rattle.meaning.specs.declared.Format.{Format}
 use Rattle.meaning.specs.Lists.{firstBroken}
 
 -- n blocks, one after another
@@ -12,43 +16,28 @@ unfoldable pub blocks : ℕ → List ℕ → List (List ℕ)
 blocks zero s = []
 blocks (suc n) s = take 128 s ∷ blocks n (drop 128 s)
 
-unfoldable pub sgn : List ℕ → ℕ
-sgn b = getD b 0 0
+-- the block of a file at a place: its 128 bytes, fewer where the file ends in it
+unfoldable pub blockAt : List ℕ → ℕ → List ℕ
+blockAt file k = take 128 (drop (1024 + 128 * k) file)
 
--- low byte first
-unfoldable pub sn : List ℕ → ℕ
-sn b = getD b 1 0 + 256 * getD b 2 0
-
-unfoldable pub ebn : List ℕ → ℕ
-ebn b = getD b 3 0
-
-unfoldable pub cs : List ℕ → ℕ
-cs b = getD b 4 0
-
-unfoldable pub vp : List ℕ → ℕ
-vp b = getD b 13 0
-
-unfoldable pub jc : List ℕ → ℕ
-jc b = getD b 14 0
-
-unfoldable pub cf : List ℕ → ℕ
-cf b = getD b 15 0
-
-pub record Time : Type 0 where
-  pub hours : ℕ
-  pub minutes : ℕ
-  pub seconds : ℕ
-  pub frames : ℕ
-
--- four bytes from an offset
+-- a time: four bytes from an offset
 unfoldable pub timeAt : ℕ → List ℕ → Time
 timeAt i b = record { hours = getD b i 0; minutes = getD b (1 + i) 0; seconds = getD b (2 + i) 0; frames = getD b (3 + i) 0 }
 
-unfoldable pub tci : List ℕ → Time
-tci b = timeAt 5 b
-
-unfoldable pub tco : List ℕ → Time
-tco b = timeAt 9 b
+-- the header, 0 to 15; SN has its low byte first
+unfoldable pub headerOf : List ℕ → Header
+headerOf b =
+    record {
+      sgn = getD b 0 0;
+      sn = getD b 1 0 + 256 * getD b 2 0;
+      ebn = getD b 3 0;
+      cs = getD b 4 0;
+      tci = timeAt 5 b;
+      tco = timeAt 9 b;
+      vp = getD b 13 0;
+      jc = getD b 14 0;
+      cf = getD b 15 0;
+    }
 
 -- the bytes before the first 8Fh
 unfoldable pub beforeEnd : List ℕ → List ℕ
@@ -70,18 +59,18 @@ unfoldable pub timesRight : ℕ → Time → Time → Bool
 timesRight rate start stop =
     timeInRange rate start && timeInRange rate stop && ltb (inFrames rate start) (inFrames rate stop)
 
-unfoldable pub isComment : List ℕ → Bool
-isComment b = eqb (cf b) 1
+unfoldable pub isComment : Header → Bool
+isComment h = eqb (h .cf) 1
 
 -- the number of the first of the rules 8 to 12 that a set's first block breaks, or 0; a comment is tested for 8 and 9 only.
 -- `least` is the least SN that rule 9 allows.
-unfoldable pub firstBlockRule : ℕ → ℕ → List ℕ → ℕ
-firstBlockRule rate least b =
+unfoldable pub firstBlockRule : Format → ℕ → Header → ℕ
+firstBlockRule f least h =
     firstBroken
-    ((8, leb (cf b) 1)
-    ∷ (9, leb least (sn b))
-    ∷ cond (isComment b) []
-    ((10, eqb (cs b) 0)
-    ∷ (11, timesRight rate (tci b) (tco b))
-    ∷ (12, leb 1 (vp b) && leb (vp b) 23 && leb (jc b) 3)
+    ((8, leb (h .cf) 1)
+    ∷ (9, leb least (h .sn))
+    ∷ cond (isComment h) []
+    ((10, eqb (h .cs) 0)
+    ∷ (11, timesRight (f .rate) (h .tci) (h .tco))
+    ∷ (12, leb (f .screen .first) (h .vp) && ltb (h .vp) (f .screen .end) && leb (h .jc) 3)
     ∷ []))

@@ -2,16 +2,27 @@
 -- Assumes nothing.
 use Prim.Native.Nat.{ℕ}
 use mathlib.Core.Bool.{Bool, true, false, cond, _&&_}
-use mathlib.Core.List.{List, [], _∷_}
+use mathlib.Core.List.{List, [], _∷_, _++_}
 use lib.Dec.{ltb, eqb}
 use Rattle.meaning.specs.declared.Token.{Token}
 use Rattle.meaning.specs.declared.Token.the-variants.{Character, Control, RowEnd, Unlisted}
 use Rattle.meaning.specs.declared.Look.{Look}
-use Rattle.meaning.specs.Looks.{whiteOnBlack}
+use Rattle.meaning.specs.declared.Pen.{Pen}
+use Rattle.meaning.specs.Codes.{takesCell}
+use Rattle.meaning.specs.Looks.{whiteOnBlack, onBlack}
 
 pub record Cell : Type 0 where
   pub character : ℕ
   pub look : Look
+
+-- the code points of a cell's character
+unfoldable pub points : Cell → List ℕ
+points c = c .character ∷ []
+
+-- the characters that code points spell, one for each cell
+unfoldable pub glyphs : List ℕ → List ℕ
+glyphs [] = []
+glyphs (p ∷ ps) = p ∷ glyphs ps
 
 -- a control yields a blank cell
 unfoldable pub cellCharacter : Token → ℕ
@@ -42,20 +53,52 @@ lookNext (Control c) l = controlNext c (controlHere c l)
 lookNext RowEnd l = l
 lookNext Unlisted l = l
 
-unfoldable pub cellsFrom : Look → List Token → List Cell
-cellsFrom l [] = []
-cellsFrom l (t ∷ ts) = record { character = cellCharacter t; look = lookHere t l } ∷ cellsFrom (lookNext t l) ts
+-- the pen is all that a token leaves to the next: the look
+unfoldable pub newPen : Bool → Pen
+newPen double = record { look = whiteOnBlack double }
 
--- each row starts white on black
-unfoldable pub cells : Bool → List Token → List Cell
-cells double row = cellsFrom (whiteOnBlack double) row
+-- a token's cell under a pen, and the pen after the token
+unfoldable pub cellOf : Token → Pen → Cell
+cellOf t p = record { character = cellCharacter t; look = lookHere t (p .look) }
+
+unfoldable pub penAfter : Token → Pen → Pen
+penAfter t p = record { look = lookNext t (p .look) }
+
+-- the cell that a token takes, if it takes one
+unfoldable pub cellsOf : Token → Pen → List Cell
+cellsOf t p = cond (takesCell t) (cellOf t p ∷ []) []
+
+-- tokens from a pen on: their cells, and the pen after them
+unfoldable pub cellsFrom : Pen → List Token → List Cell
+cellsFrom p [] = []
+cellsFrom p (t ∷ ts) = cellsOf t p ++ cellsFrom (penAfter t p) ts
+
+unfoldable pub penEnd : Pen → List Token → Pen
+penEnd p [] = p
+penEnd p (t ∷ ts) = penEnd (penAfter t p) ts
+
+-- the pen at the start of a row, from the pen before it: each row starts white on black, in the subtitle's height
+unfoldable pub rowStart : List Token → Pen → Pen
+rowStart row p = newPen (p .look .double)
+
+-- a row's cells, and the pen after it
+abbrev pub cellsOfRow : Pen → List Token → List Cell
+cellsOfRow p row = cellsFrom (rowStart row p) row
+
+abbrev pub penAfterRow : Pen → List Token → Pen
+penAfterRow p row = penEnd (rowStart row p) row
+
+-- the cells of rows, one after another
+unfoldable pub cellRows : Pen → List (List Token) → List (List Cell)
+cellRows p [] = []
+cellRows p (r ∷ rs) = cellsOfRow p r ∷ cellRows (penAfterRow p r) rs
 
 -- a blank is the cell of 20h or of a control
 unfoldable pub isBlank : Cell → Bool
 isBlank c = eqb (c .character) 32
 
 unfoldable pub isBlankOnBlack : Cell → Bool
-isBlankOnBlack c = isBlank c && eqb (c .look .background) 0
+isBlankOnBlack c = isBlank c && onBlack (c .look)
 
 unfoldable pub trimFront : List Cell → List Cell
 trimFront [] = []

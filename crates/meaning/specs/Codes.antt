@@ -57,6 +57,13 @@ isRowEnd (Control c) = false
 isRowEnd RowEnd = true
 isRowEnd Unlisted = false
 
+-- a token that takes a cell of its row
+unfoldable pub takesCell : Token → Bool
+takesCell (Character p) = true
+takesCell (Control c) = true
+takesCell RowEnd = true
+takesCell Unlisted = true
+
 -- 0Dh
 unfoldable pub isDoubleHeight : Token → Bool
 isDoubleHeight (Character p) = false

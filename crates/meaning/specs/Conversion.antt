@@ -7,12 +7,14 @@ use lib.Dec.{leb}
 use lib.ListN.{length, drop, replicate}
 use Rattle.meaning.specs.declared.Answer.{Answer}
 use Rattle.meaning.specs.declared.Lines.{Lines}
+use Rattle.meaning.specs.Lists.{joinMap}
 use Rattle.meaning.specs.Looks.{pack}
 use Rattle.meaning.specs.Rows.{linesOf, rowCount}
-use Rattle.meaning.specs.Cells.{Cell, shown}
+use Rattle.meaning.specs.Cells.{Cell, points, shown}
 use Rattle.meaning.specs.Spans.{spans, lookOf}
-use Rattle.meaning.specs.Gsi.{rateOf}
-use Rattle.meaning.specs.Blocks.{sn, tci, tco, vp, jc}
+use Rattle.meaning.specs.declared.Format.{Format}
+use Rattle.meaning.specs.Gsi.{formatOf}
+use Rattle.meaning.specs.declared.Header.{Header}
 use Rattle.meaning.specs.Sets.{Subtitle, Progress, Outcome, outcome}
 use Rattle.meaning.specs.Sets.Outcome.{refused, accepted}
 use Rattle.meaning.specs.Document.{Span, Piece, Alignment, Paragraph, Document, render, documentSpans}
@@ -20,7 +22,7 @@ use Rattle.meaning.specs.Document.Piece.{span, br}
 use Rattle.meaning.specs.Document.Alignment.{left, centre, right}
 
 unfoldable pub spanOf : List Cell → Span
-spanOf cs = record { look = pack (lookOf cs); characters = map (λ (c : Cell). c .character) cs }
+spanOf cs = record { look = pack (lookOf cs); characters = joinMap points cs }
 
 unfoldable pub rowSpans : List Cell → List Span
 rowSpans row = map spanOf (spans (shown row))
@@ -34,13 +36,13 @@ unfoldable pub rowPieces : List (List Cell) → List Piece
 rowPieces [] = []
 rowPieces (r ∷ rs) = map span (rowSpans r) ++ laterRows rs
 
--- filler lines = 24 - VP - lines covered
-unfoldable pub fillers : ℕ → Lines → Lines
-fillers vp covered = record { 0 = 24 - vp - covered .0 }
+-- filler lines = end of the screen - VP - lines covered
+unfoldable pub fillers : ℕ → ℕ → Lines → Lines
+fillers end vp covered = record { 0 = end - vp - covered .0 }
 
 -- rows, then one tt:br for each filler line
-unfoldable pub pieces : ℕ → Bool → List (List Cell) → List Piece
-pieces vp double rs = rowPieces rs ++ replicate (fillers vp (linesOf double (rowCount rs)) .0) br
+unfoldable pub pieces : ℕ → ℕ → Bool → List (List Cell) → List Piece
+pieces end vp double rs = rowPieces rs ++ replicate (fillers end vp (linesOf double (rowCount rs)) .0) br
 
 -- JC 00h and 01h are left, 02h centre, 03h right
 unfoldable pub alignmentOf : ℕ → Alignment
@@ -49,19 +51,19 @@ alignmentOf (suc zero) = left
 alignmentOf (suc (suc zero)) = centre
 alignmentOf (suc (suc (suc n))) = right
 
-unfoldable pub paragraphOf : Subtitle → Paragraph
-paragraphOf s =
+unfoldable pub paragraphOf : Format → Subtitle → Paragraph
+paragraphOf f s =
     record {
-      number = sn (s .first);
-      begin = tci (s .first);
-      end = tco (s .first);
-      alignment = alignmentOf (jc (s .first));
-      pieces = pieces (vp (s .first)) (s .double) (s .rows);
+      number = s .first .sn;
+      begin = s .first .tci;
+      end = s .first .tco;
+      alignment = alignmentOf (s .first .jc);
+      pieces = pieces (f .screen .end) (s .first .vp) (s .double) (s .rows);
     }
 
 -- every subtitle is one paragraph, in order
-unfoldable pub documentOf : ℕ → Progress → Document
-documentOf rate p = record { rate = rate; paragraphs = map paragraphOf (p .subtitles) }
+unfoldable pub documentOf : Format → Progress → Document
+documentOf f p = record { rate = f .rate; paragraphs = map (paragraphOf f) (p .subtitles) }
 
 unfoldable pub refusal : ℕ → ℕ → ℕ → Answer
 refusal number place needed =
@@ -73,30 +75,30 @@ acceptance written p spans =
       number = 0;
       place = 0;
       length = written;
-      subtitles = p .counts .subtitles;
-      comments = p .counts .comments;
-      continuations = p .counts .continuations;
-      users = p .counts .users;
+      subtitles = p .assembly .counts .subtitles;
+      comments = p .assembly .counts .comments;
+      continuations = p .assembly .counts .continuations;
+      users = p .assembly .counts .users;
       spans = spans;
     }
 
-unfoldable pub answerTo : ℕ → ℕ → Outcome → Answer
-answerTo rate room (refused n k) = refusal n k 0
-answerTo rate room (accepted p) =
-    let d = documentOf rate p in
+unfoldable pub answerTo : Format → ℕ → Outcome → Answer
+answerTo f room (refused n k) = refusal n k 0
+answerTo f room (accepted p) =
+    let d = documentOf f p in
     let n = length (render d) in
     elim (leb n room) [ true ↦ acceptance n p (documentSpans (d .paragraphs)) | false ↦ refusal 16 0 n ]
 
 -- what comes back for a break mode, a file, and a buffer of some length
 unfoldable pub answer : ℕ → List ℕ → ℕ → Answer
-answer mode file room = answerTo (rateOf file) room (outcome mode file)
+answer mode file room = answerTo (formatOf mode file) room (outcome mode file)
 
-unfoldable pub bufferAfter : ℕ → List ℕ → Outcome → List ℕ
-bufferAfter rate buffer (refused n k) = buffer
-bufferAfter rate buffer (accepted p) =
-    let d = render (documentOf rate p) in
+unfoldable pub bufferAfter : Format → List ℕ → Outcome → List ℕ
+bufferAfter f buffer (refused n k) = buffer
+bufferAfter f buffer (accepted p) =
+    let d = render (documentOf f p) in
     elim (leb (length d) (length buffer)) [ true ↦ d ++ drop (length d) buffer | false ↦ buffer ]
 
 -- what the buffer holds at the end: untouched after a refusal; else the document, and the bytes after it untouched
 unfoldable pub output : ℕ → List ℕ → List ℕ → List ℕ
-output mode file buffer = bufferAfter (rateOf file) buffer (outcome mode file)
+output mode file buffer = bufferAfter (formatOf mode file) buffer (outcome mode file)

@@ -6,7 +6,7 @@ use mathlib.Core.List.{List}
 use lib.ListN.{getD, take}
 use Rattle.meaning.specs.declared.Answer.{Answer}
 use Rattle.meaning.specs.Sets.{subtitlesOf, outcome}
-use Rattle.meaning.specs.Document.{Document}
+use Rattle.meaning.specs.Document.{Document, render}
 use Rattle.meaning.specs.Profile.{Writes, Shows, spanElements}
 
 -- a list of bytes
@@ -14,12 +14,12 @@ abbrev pub Bytes : List ℕ → Type 0
 Bytes s = (i : ℕ) → getD s i 0 < 256
 
 -- The document in the buffer is of the profile and shows the file's rows; the answer counts its tt:span elements;
--- and no document of the profile that shows the same has fewer.
+-- and no document that shows the same has fewer, whether it is of the profile or not.
 pub record FewestSpans (mode : ℕ) (file : List ℕ) (a : Answer) (buffer : List ℕ) : Type 0 where
   pub document : Document
   pub written : Writes (take (a .length) buffer) document
   pub shows : Shows document (subtitlesOf (outcome mode file))
   pub counted : a .spans ≡ spanElements (take (a .length) buffer)
   pub fewest :
-      (other : List ℕ) (d : Document) → Writes other d → Shows d (subtitlesOf (outcome mode file))
+      (other : List ℕ) (d : Document) → other ≡ render d → Shows d (subtitlesOf (outcome mode file))
       → a .spans ≤ spanElements other

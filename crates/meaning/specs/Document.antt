@@ -5,10 +5,11 @@ use Prim.Native.String.{String}
 use mathlib.Core.Bool.{Bool, true, false, cond}
 use mathlib.Core.List.{List, [], _∷_, _++_}
 use lib.Dec.{ltb, eqb}
+use lib.ListN.{length}
 use Rattle.meaning.specs.declared.Look.{Look}
 use Rattle.meaning.specs.Lists.{any, keep, joinMap, joined, upFrom, bytes}
-use Rattle.meaning.specs.Looks.{unpack}
-use Rattle.meaning.specs.Blocks.{Time}
+use Rattle.meaning.specs.Looks.{lookCount, unpack}
+use Rattle.meaning.specs.declared.Time.{Time}
 
 -- a tt:span: the number of its look, and its characters' code points
 pub record Span : Type 0 where
@@ -109,16 +110,24 @@ writeStyle look =
     ∷ bytes "\" tts:backgroundColor=\"" ∷ colourName (unpack look .background)
     ∷ bytes "\" tts:fontSize=\"" ∷ sizeName (unpack look .double) ∷ bytes "\"/>\n" ∷ [])
 
-unfoldable pub usedIn : ℕ → Piece → Bool
-usedIn look (span s) = eqb (s .look) look
-usedIn look br = false
+-- the looks of the spans of a paragraph, and of a document, in order
+unfoldable pub looksOf : List Piece → List ℕ
+looksOf [] = []
+looksOf (span s ∷ ps) = s .look ∷ looksOf ps
+looksOf (br ∷ ps) = looksOf ps
+
+abbrev pub paragraphLooks : Paragraph → List ℕ
+paragraphLooks p = looksOf (p .pieces)
+
+unfoldable pub documentLooks : List Paragraph → List ℕ
+documentLooks ps = joinMap paragraphLooks ps
 
 unfoldable pub isUsed : List Paragraph → ℕ → Bool
-isUsed ps look = any (λ (p : Paragraph). any (usedIn look) (p .pieces)) ps
+isUsed ps look = any (eqb look) (documentLooks ps)
 
 -- the looks in use: each that a span uses, once, ascending
 unfoldable pub looksUsed : List Paragraph → List ℕ
-looksUsed ps = keep (isUsed ps) (upFrom 128 0)
+looksUsed ps = keep (isUsed ps) (upFrom lookCount 0)
 
 -- the fixed text up to the frame rate, up to the s-styles, up to the paragraphs, and after them
 unfoldable pub beforeRate : List ℕ
@@ -141,10 +150,7 @@ render d =
 
 -- the spans of a paragraph, and of a document
 unfoldable pub countSpans : List Piece → ℕ
-countSpans [] = 0
-countSpans (span s ∷ ps) = suc (countSpans ps)
-countSpans (br ∷ ps) = countSpans ps
+countSpans ps = length (looksOf ps)
 
 unfoldable pub documentSpans : List Paragraph → ℕ
-documentSpans [] = 0
-documentSpans (p ∷ ps) = countSpans (p .pieces) + documentSpans ps
+documentSpans ps = length (documentLooks ps)

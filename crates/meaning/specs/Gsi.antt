@@ -1,10 +1,12 @@
 -- The GSI block, and the rules 1 to 6 over a whole file: document 01, "The file" and "What comes back".
 -- Assumes nothing.
-use Prim.Native.Nat.{ℕ, zero, suc, _+_, _*_, _-_, _/_, _%_}
+use Prim.Native.Nat.{ℕ, _+_, _*_, _-_, _/_, _%_}
 use mathlib.Core.Bool.{Bool, true, false, _&&_, _||_}
 use mathlib.Core.List.{List, [], _∷_}
 use lib.Dec.{leb, eqb}
 use lib.ListN.{length, getD, take, drop}
+use Rattle.meaning.specs.declared.Screen.{Screen}
+use Rattle.meaning.specs.declared.Format.{Format}
 use Rattle.meaning.specs.Lists.{all, same, bytes, firstBroken}
 
 -- n bytes from an offset
@@ -21,6 +23,14 @@ rateOf file =
 
 unfoldable pub isRate : ℕ → Bool
 isRate n = eqb n 25 || eqb n 30
+
+-- the lines 1 to 23 of a teletext page
+unfoldable pub teletext : Screen
+teletext = record { first = 1; end = 24 }
+
+-- how a file is read in a break mode
+unfoldable pub formatOf : ℕ → List ℕ → Format
+formatOf mode file = record { mode = mode; rate = rateOf file; screen = teletext }
 
 -- the blocks present
 unfoldable pub blockCount : List ℕ → ℕ

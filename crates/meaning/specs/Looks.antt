@@ -5,6 +5,10 @@ use mathlib.Core.Bool.{Bool, cond}
 use lib.Dec.{eqb}
 use Rattle.meaning.specs.declared.Look.{Look}
 
+-- a packed look is below it
+abbrev pub lookCount : ℕ
+lookCount = 128
+
 unfoldable pub whiteOnBlack : Bool → Look
 whiteOnBlack double = record { double = double; background = 0; colour = 7 }
 
@@ -14,6 +18,17 @@ pack l = cond (l .double) 64 0 + 8 * l .background + l .colour
 unfoldable pub unpack : ℕ → Look
 unpack n = record { double = eqb (n / 64 % 2) 1; background = n / 8 % 8; colour = n % 8 }
 
--- height and background of a packed look, as one number
-unfoldable pub packedGround : ℕ → ℕ
-packedGround n = n / 8 % 16
+-- what all cells of a span share, as one number: height and background
+unfoldable pub shared : Look → ℕ
+shared l = cond (l .double) 1 0 + 2 * l .background
+
+-- what a blank leaves open, as one number: colour
+unfoldable pub free : Look → ℕ
+free l = l .colour
+
+-- the look that shares with one look and is in what is left open like another
+unfoldable pub blend : Look → Look → Look
+blend l m = record { double = l .double; background = l .background; colour = m .colour }
+
+unfoldable pub onBlack : Look → Bool
+onBlack l = eqb (l .background) 0

@@ -8,8 +8,8 @@ use lib.Dec.{ltb, leb, eqb}
 use lib.ListN.{getD}
 use Rattle.meaning.specs.declared.Look.{Look}
 use Rattle.meaning.specs.Lists.{all, ontoFirst, bytes}
-use Rattle.meaning.specs.Looks.{unpack}
-use Rattle.meaning.specs.Cells.{Cell, isBlank, shown}
+use Rattle.meaning.specs.Looks.{lookCount, unpack, shared, free}
+use Rattle.meaning.specs.Cells.{Cell, glyphs, isBlank, shown}
 use Rattle.meaning.specs.Gsi.{isRate}
 use Rattle.meaning.specs.Blocks.{timesRight}
 use Rattle.meaning.specs.Sets.{Subtitle}
@@ -20,9 +20,9 @@ use Rattle.meaning.specs.Document.Piece.{span, br}
 unfoldable pub isScalar : ℕ → Bool
 isScalar p = ltb p 55296 || (leb 57344 p && ltb p 1114112)
 
--- a span carries one of the 128 s-styles; its characters are divided at will
+-- a span carries one of the s-styles; its characters are divided at will
 unfoldable pub pieceInProfile : Piece → Bool
-pieceInProfile (span s) = ltb (s .look) 128 && all isScalar (s .characters)
+pieceInProfile (span s) = ltb (s .look) lookCount && all isScalar (s .characters)
 pieceInProfile br = true
 
 -- the ids ascend and are SNs, the times are such that rule 11 holds; `least` is the least id that is allowed
@@ -47,20 +47,19 @@ documentRows [] = [] ∷ []
 documentRows (span s ∷ ps) = ontoFirst s (documentRows ps)
 documentRows (br ∷ ps) = [] ∷ documentRows ps
 
--- a character is a cell with its span's look
+-- a character, of as many code points as it has, is a cell with its span's look
 unfoldable pub spanCells : Span → List Cell
-spanCells s = map (λ (p : ℕ). record { character = p; look = unpack (s .look) }) (s .characters)
+spanCells s = map (λ (p : ℕ). record { character = p; look = unpack (s .look) }) (glyphs (s .characters))
 
 unfoldable pub rowCells : List Span → List Cell
 rowCells [] = []
 rowCells (s ∷ ss) = spanCells s ++ rowCells ss
 
--- equal in character, background, height and, blanks apart, colour
+-- equal in character, in what a span's cells share (background, height) and, blanks apart, in what a blank leaves open (colour)
 pub record SameCell (c d : Cell) : Type 0 where
   pub character : c .character ≡ d .character
-  pub background : c .look .background ≡ d .look .background
-  pub double : c .look .double ≡ d .look .double
-  pub colour : isBlank c ≡ false → c .look .colour ≡ d .look .colour
+  pub shares : shared (c .look) ≡ shared (d .look)
+  pub agrees : isBlank c ≡ false → free (c .look) ≡ free (d .look)
 
 -- equal in number and cell by cell
 pub data SameCells : List Cell → List Cell → Type 0 where

@@ -8,8 +8,8 @@ use lib.ListN.{length, getD}
 use Rattle.meaning.specs.declared.Token.{Token}
 use Rattle.meaning.specs.declared.Rows.{Rows}
 use Rattle.meaning.specs.declared.Lines.{Lines}
-use Rattle.meaning.specs.Lists.{all, any, ontoFirst, later, firstBroken}
-use Rattle.meaning.specs.Codes.{isListed, isCharacter, isRowEnd, isDoubleHeight}
+use Rattle.meaning.specs.Lists.{all, any, keep, ontoFirst, later, firstBroken}
+use Rattle.meaning.specs.Codes.{isListed, isCharacter, isRowEnd, takesCell, isDoubleHeight}
 
 -- n row ends make n + 1 rows, empty ones counted
 unfoldable pub splitRows : List Token → List (List Token)
@@ -66,15 +66,15 @@ rowCount rs = record { 0 = length rs }
 
 -- a row has at most 64 cells, controls included
 unfoldable pub isShort : List Token → Bool
-isShort r = leb (length r) 64
+isShort r = leb (length (keep takesCell r)) 64
 
--- rule 15: all rows are short, and the lines covered, from line VP on, end at line 23 at the latest
-unfoldable pub rowsFit : ℕ → ℕ → List Token → Bool
-rowsFit mode vp ts =
+-- rule 15: all rows are short, and the lines covered, from line VP on, end before line `end`
+unfoldable pub rowsFit : ℕ → ℕ → ℕ → List Token → Bool
+rowsFit mode end vp ts =
     all isShort (rows mode ts)
-    && leb (vp + linesOf (isDouble ts) (rowCount (rows mode ts)) .0) 24
+    && leb (vp + linesOf (isDouble ts) (rowCount (rows mode ts)) .0) end
 
 -- the number of the first of the rules 13 to 15 that a text breaks, or 0
-unfoldable pub textRule : ℕ → ℕ → List Token → ℕ
-textRule mode vp ts =
-    firstBroken ((13, all isListed ts) ∷ (14, heightsRight mode ts) ∷ (15, rowsFit mode vp ts) ∷ [])
+unfoldable pub textRule : ℕ → ℕ → ℕ → List Token → ℕ
+textRule mode end vp ts =
+    firstBroken ((13, all isListed ts) ∷ (14, heightsRight mode ts) ∷ (15, rowsFit mode end vp ts) ∷ [])

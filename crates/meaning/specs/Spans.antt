@@ -1,39 +1,26 @@
 -- The spans of shown cells: document 01, "Text to rows".
 -- Assumes nothing.
-use Prim.Native.Nat.{ℕ}
-use mathlib.Core.Bool.{Bool, true, false, not, _&&_, _||_}
+use mathlib.Core.Bool.{Bool, true, false, _&&_, _||_}
 use mathlib.Core.List.{List, [], _∷_, _++_}
 use lib.Dec.{eqb}
 use Rattle.meaning.specs.declared.Look.{Look}
-use Rattle.meaning.specs.Looks.{whiteOnBlack}
+use Rattle.meaning.specs.Looks.{whiteOnBlack, shared, free, blend}
 use Rattle.meaning.specs.Lists.{all}
 use Rattle.meaning.specs.Cells.{Cell, isBlank}
 
-unfoldable pub sameBit : Bool → Bool → Bool
-sameBit true b = b
-sameBit false b = not b
-
--- what all cells of a span share: height and background
-unfoldable pub sameGround : Look → Look → Bool
-sameGround l m = sameBit (l .double) (m .double) && eqb (l .background) (m .background)
-
--- what a blank leaves open: colour
-unfoldable pub sameColour : Look → Look → Bool
-sameColour l m = eqb (l .colour) (m .colour)
-
 -- a cell can stand in a span of a look
 unfoldable pub fits : Look → Cell → Bool
-fits l c = sameGround (c .look) l && (isBlank c || sameColour (c .look) l)
+fits l c = eqb (shared (c .look)) (shared l) && (isBlank c || eqb (free (c .look)) (free l))
 
--- the colour of the first cell that is no blank; blanks only count as white
-unfoldable pub colourOf : List Cell → ℕ
-colourOf [] = 7
-colourOf (c ∷ cs) = elim (isBlank c) [ true ↦ colourOf cs | false ↦ c .look .colour ]
+-- the look of the first cell that is no blank; blanks only count as white
+unfoldable pub foregroundOf : List Cell → Look
+foregroundOf [] = whiteOnBlack false
+foregroundOf (c ∷ cs) = elim (isBlank c) [ true ↦ foregroundOf cs | false ↦ c .look ]
 
 -- the look of a span
 unfoldable pub lookOf : List Cell → Look
 lookOf [] = whiteOnBlack false
-lookOf (c ∷ cs) = record { double = c .look .double; background = c .look .background; colour = colourOf (c ∷ cs) }
+lookOf (c ∷ cs) = blend (c .look) (foregroundOf (c ∷ cs))
 
 -- equal background and height and, blanks apart, one colour
 unfoldable pub uniform : List Cell → Bool

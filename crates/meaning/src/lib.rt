@@ -1,7 +1,8 @@
 // The types that the definitions in specs/ speak of, with the few functions that belong to a type.
 
 ghost use mathlib.Core.Path.{_≡_};
-ghost use Rattle.meaning.specs.Looks.{whiteOnBlack, pack, unpack, packedGround};
+ghost use Rattle.meaning.specs.Looks.{whiteOnBlack, pack, unpack, shared, free, blend};
+ghost use Rattle.meaning.specs.Cells.{newPen};
 ghost use Rattle.meaning.specs.Rows.{linesOf};
 
 // What comes back from a conversion, in document 01's order.
@@ -24,6 +25,40 @@ pub struct Counts {
     pub users: u64,
 }
 
+// A time code: hours, minutes, seconds, frames.
+pub struct Time {
+    pub hours: u8,
+    pub minutes: u8,
+    pub seconds: u8,
+    pub frames: u8,
+}
+
+// The header fields of a TTI block.
+pub struct Header {
+    pub sgn: u8,
+    pub sn: u16,
+    pub ebn: u8,
+    pub cs: u8,
+    pub tci: Time,
+    pub tco: Time,
+    pub vp: u8,
+    pub jc: u8,
+    pub cf: u8,
+}
+
+// The lines that a subtitle may stand on: from `first` up to, not with, `end`.
+pub struct Screen {
+    pub first: u8,
+    pub end: u8,
+}
+
+// How a file is read: the break mode, the frames of a second, and the screen.
+pub struct Format {
+    pub mode: u64,
+    pub rate: u64,
+    pub screen: Screen,
+}
+
 // What one code of a text, or an accent with its letter, stands for.
 pub enum Token {
     Character(u16),
@@ -44,6 +79,9 @@ impl Look {
 
     pub const WHITE: u8 = 7;
 
+    // A packed look is below it.
+    pub const COUNT: usize = 128;
+
     pub fn white_on_black(double: bool) -> Look
         ensures { λ r. ⌜ r ≡ whiteOnBlack double ⌝ }
     {
@@ -54,34 +92,45 @@ impl Look {
         }
     }
 
-    pub fn pack(self) -> usize
+    pub fn pack(self) -> u16
         ensures { λ r. ⌜ r ≡ pack self ⌝ }
     {
-        let low = 8 * (self.background as usize) + self.colour as usize;
+        let low = 8 * (self.background as u16) + self.colour as u16;
         if self.double { 64 + low } else { low }
     }
 
-    // Parts of a packed look, for those who keep looks packed: height and background as one number; the background; the
-    // colour.
-    pub fn packed_ground(n: u8) -> u8
-        ensures { λ r. ⌜ r ≡ packedGround n ⌝ }
+    // The look that shares with one look and is in what a blank leaves open like another.
+    pub fn blend(self, source: Look) -> Look
+        ensures { λ r. ⌜ r ≡ blend self source ⌝ }
     {
-        n / 8 % 16
+        Look {
+            double: self.double,
+            background: self.background,
+            colour: source.colour,
+        }
     }
 
-    pub fn packed_background(n: u8) -> u8
-        ensures { λ r. ⌜ r ≡ unpack n .background ⌝ }
+    // Parts of a packed look, for those who keep looks packed: what the cells of a span share; what a blank leaves open; the
+    // background.
+    pub fn packed_shared(n: u16) -> u16
+        ensures { λ r. ⌜ r ≡ shared (unpack n) ⌝ }
     {
-        n / 8 % 8
+        n / 64 % 2 + 2 * (n / 8 % 8)
     }
 
-    pub fn packed_colour(n: u8) -> u8
-        ensures { λ r. ⌜ r ≡ unpack n .colour ⌝ }
+    pub fn packed_free(n: u16) -> u16
+        ensures { λ r. ⌜ r ≡ free (unpack n) ⌝ }
     {
         n % 8
     }
 
-    pub fn unpack(n: usize) -> Look
+    pub fn packed_background(n: u16) -> u8
+        ensures { λ r. ⌜ r ≡ unpack n .background ⌝ }
+    {
+        (n / 8 % 8) as u8
+    }
+
+    pub fn unpack(n: u16) -> Look
         ensures { λ r. ⌜ r ≡ unpack n ⌝ }
     {
         Look {
@@ -89,6 +138,21 @@ impl Look {
             background: (n / 8 % 8) as u8,
             colour: (n % 8) as u8,
         }
+    }
+}
+
+// What a token of a text leaves to the next: the look of the cells to come.
+pub struct Pen {
+    pub look: Look,
+}
+
+impl Pen {
+    // At the start of a subtitle.
+    pub fn new(double: bool) -> Pen
+        ensures { λ r. ⌜ r ≡ newPen double ⌝ }
+    {
+        let look = Look::white_on_black(double);
+        Pen { look }
     }
 }
 

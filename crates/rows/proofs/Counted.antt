@@ -7,7 +7,7 @@ use mathlib.Core.Bool.{Bool, true, false, _||_}
 use lib.Dec.{ltb}
 use borrow.Author.Tests.{lt-ltb, le-ltb, ltb-true, ltb-false}
 use Rattle.meaning.specs.declared.Token.the-variants.{Character}
-use Rattle.meaning.specs.Codes.{isListed, isCharacter, isDoubleHeight}
+use Rattle.meaning.specs.Codes.{isListed, isCharacter, takesCell, isDoubleHeight}
 use Rattle.meaning.proofs.Logic.{by-test}
 use Rattle.rows.specs.declared.RowFacts.{RowFacts}
 use Rattle.rows.specs.Scanning.{moreUpTo, manyUpTo, withToken, withCharacters}
@@ -30,7 +30,7 @@ many-min limit n (suc k) h =
 pub characters-at-once : (f : RowFacts) (n : ℕ)
     → withCharacters f n
     ≡ record { cells = manyUpTo 65 (f .cells) n; listed = f .listed; height = f .height; character = f .character || ltb 0 n; ordered = f .ordered }
-unfolding withCharacters withToken manyUpTo isListed isCharacter isDoubleHeight
+unfolding withCharacters withToken manyUpTo isListed isCharacter takesCell isDoubleHeight
 characters-at-once f zero = rw (or-false (f .character))
   where
     or-false : (b : Bool) → (b || false) ≡ b

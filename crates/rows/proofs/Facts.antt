@@ -12,8 +12,8 @@ use Rattle.meaning.specs.declared.Rows.{Rows}
 use Rattle.meaning.specs.declared.Lines.{Lines}
 use Rattle.meaning.specs.declared.Token.{Token}
 use Rattle.meaning.specs.declared.Token.the-variants.{Character, Control, RowEnd, Unlisted}
-use Rattle.meaning.specs.Lists.{all, any, later, ontoFirst, firstBroken}
-use Rattle.meaning.specs.Codes.{tokens, isListed, isCharacter, isRowEnd, isDoubleHeight}
+use Rattle.meaning.specs.Lists.{all, any, keep, later, ontoFirst, firstBroken}
+use Rattle.meaning.specs.Codes.{tokens, isListed, isCharacter, isRowEnd, takesCell, isDoubleHeight}
 use Rattle.meaning.specs.Rows.{splitRows, isDouble, breaksPaired, pairedFrom, rows, heightFirst, evenFrom, heightsRight, linesOf, rowCount, isShort, rowsFit, textRule}
 use Rattle.meaning.proofs.Logic.{by-test, or-join}
 use Rattle.meaning.proofs.ListLaws.{all-cons, any-cons, test-nil}
@@ -108,10 +108,22 @@ row-ordered f (t ∷ ts) =
     ∙ ordered-step (isCharacter t) (f .character) (f .ordered) (isDoubleHeight t) (any isDoubleHeight ts) (heightFirst ts)
     ∙ rw (any-cons isDoubleHeight t ts, height-cons t ts)
 
-row-cells : (f : RowFacts) (ts : List Token) → f .cells ≤ 65 → rowFactsFrom f ts .cells ≡ min (f .cells + length ts) 65
-unfolding rowFactsFrom withToken
-row-cells f [] h = omega arith
-row-cells f (t ∷ ts) h = row-cells (withToken f t) ts (more-le 65 (f .cells) h) ∙ more-min 65 (f .cells) (length ts) h
+-- a token that takes a cell is counted, up to the limit
+counted : Token → ℕ → ℕ
+counted t n = cond (takesCell t) (moreUpTo 65 n) n
+
+counted-le : (t : Token) (n : ℕ) → n ≤ 65 → counted t n ≤ 65
+unfolding counted
+counted-le t n h = by-test (takesCell t) (λ e. rw e (more-le 65 n h)) (λ e. rw e h)
+
+counted-min : (t : Token) (ts : List Token) (n : ℕ) → n ≤ 65 → min (counted t n + length (keep takesCell ts)) 65 ≡ min (n + length (keep takesCell (t ∷ ts))) 65
+unfolding counted keep
+counted-min t ts n h = by-test (takesCell t) (λ e. rw (e, keep) (more-min 65 n (length (keep takesCell ts)) h)) (λ e. rw (e, keep))
+
+row-cells : (f : RowFacts) (ts : List Token) → f .cells ≤ 65 → rowFactsFrom f ts .cells ≡ min (f .cells + length (keep takesCell ts)) 65
+unfolding rowFactsFrom withToken counted
+row-cells f [] h = unfold keep in omega arith
+row-cells f (t ∷ ts) h = row-cells (withToken f t) ts (counted-le t (f .cells) h) ∙ counted-min t ts (f .cells) h
 
 -- up to the limit no test can tell the count from its capped one
 capped : (limit n k : ℕ) → k < limit → leb (min n limit) k ≡ leb n k
@@ -137,8 +149,9 @@ module _ (r : List Token) where
   whole-short : leb (rowFactsFrom noRowFacts r .cells) 64 ≡ isShort r
   unfolding noRowFacts isShort
   whole-short =
-      let z : 0 + length r ≡ length r = omega arith in
-      rw (row-cells noRowFacts r (omega arith), z) (capped 65 (length r) 64 (omega arith))
+      let n = length (keep takesCell r) in
+      let z : 0 + n ≡ n = omega arith in
+      rw (row-cells noRowFacts r (omega arith), z) (capped 65 n 64 (omega arith))
 
 -- the facts of a text's rows
 text-listed : (a : TextFacts) (rs : List (List Token)) → textFactsFrom a rs .listed ≡ (a .listed && all (all isListed) rs)
@@ -165,10 +178,10 @@ text-short a [] = unfold all in and-true (a .short)
 text-short a (r ∷ rs) =
     text-short _ rs ∙ and-join (a .short) _ _ ∙ rw (whole-short r, all-cons isShort r rs)
 
-text-rows : (a : TextFacts) (rs : List (List Token)) → a .rows ≤ 255 → textFactsFrom a rs .rows ≡ min (a .rows + length rs) 255
+text-rows : (a : TextFacts) (rs : List (List Token)) → a .rows ≤ 256 → textFactsFrom a rs .rows ≡ min (a .rows + length rs) 256
 unfolding textFactsFrom withRow
 text-rows a [] h = omega arith
-text-rows a (r ∷ rs) h = text-rows _ rs (more-le 255 (a .rows) h) ∙ more-min 255 (a .rows) (length rs) h
+text-rows a (r ∷ rs) h = text-rows _ rs (more-le 256 (a .rows) h) ∙ more-min 256 (a .rows) (length rs) h
 
 -- a row end is listed, and a text is listed if its rows are
 end-listed : (t : Token) → isRowEnd t ≡ true → isListed t ≡ true
@@ -225,23 +238,23 @@ later-height paired ts =
     rw (e, rows-first paired ts)
     (ap not (rw (sym (double-first ts) ∙ e) at (sym (any-cons (any isDoubleHeight) (firstRow ts) (rowsAfter paired ts))))))
 
--- the lines covered, with the rows counted up to 255
-lines-capped : (vp : ℕ) (double : Bool) (n : ℕ) → leb (vp + linesOf double (record { 0 = min n 255 }) .0) 24 ≡ leb (vp + linesOf double (record { 0 = n }) .0) 24
+-- the lines covered, with the rows counted up to 256
+lines-capped : (end vp : ℕ) → end < 256 → (double : Bool) (n : ℕ) → leb (vp + linesOf double (record { 0 = min n 256 }) .0) end ≡ leb (vp + linesOf double (record { 0 = n }) .0) end
 unfolding linesOf
-lines-capped vp double n =
-    by-test (leb (vp + linesOf double (record { 0 = n }) .0) 24)
-    (λ e. rw e (le-leb _ 24 (low double (leb-true _ 24 e))))
-    (λ e. rw e (lt-leb _ 24 (high double (leb-false _ 24 e))))
+lines-capped end vp h double n =
+    by-test (leb (vp + linesOf double (record { 0 = n }) .0) end)
+    (λ e. rw e (le-leb _ end (low double (leb-true _ end e))))
+    (λ e. rw e (lt-leb _ end (high double (leb-false _ end e))))
   where
-    low : (d : Bool) → vp + linesOf d (record { 0 = n }) .0 ≤ 24 → vp + linesOf d (record { 0 = min n 255 }) .0 ≤ 24
-    low true h = omega arith
-    low false h = omega arith
+    low : (d : Bool) → vp + linesOf d (record { 0 = n }) .0 ≤ end → vp + linesOf d (record { 0 = min n 256 }) .0 ≤ end
+    low true k = omega arith
+    low false k = omega arith
 
-    high : (d : Bool) → 24 < vp + linesOf d (record { 0 = n }) .0 → 24 < vp + linesOf d (record { 0 = min n 255 }) .0
-    high true h = omega arith
-    high false h = omega arith
+    high : (d : Bool) → end < vp + linesOf d (record { 0 = n }) .0 → end < vp + linesOf d (record { 0 = min n 256 }) .0
+    high true k = omega arith
+    high false k = omega arith
 
-module _ (mode vp : ℕ) (ts : List Token) where
+module _ (mode end vp : ℕ) (short : end < 256) (ts : List Token) where
   abbrev facts : TextFacts
   facts = textFactsFrom noTextFacts (rowsOf (breaksPaired mode ts) ts)
 
@@ -256,14 +269,14 @@ module _ (mode vp : ℕ) (ts : List Token) where
       let rs = rowsOf (breaksPaired mode ts) ts in
       rw (rows-are mode ts, text-ordered noTextFacts rs, text-height noTextFacts rs, later-height (breaksPaired mode ts) ts)
 
-  right-15 : (facts .short && leb (vp + linesOf (isDouble ts) (record { 0 = facts .rows }) .0) 24) ≡ rowsFit mode vp ts
+  right-15 : (facts .short && leb (vp + linesOf (isDouble ts) (record { 0 = facts .rows }) .0) end) ≡ rowsFit mode end vp ts
   unfolding noTextFacts rowsFit rowCount
   right-15 =
       let rs = rowsOf (breaksPaired mode ts) ts in
       let z : 0 + length rs ≡ length rs = omega arith in
-      rw (rows-are mode ts, text-short noTextFacts rs, text-rows noTextFacts rs (omega arith), z, lines-capped vp (isDouble ts) (length rs))
+      rw (rows-are mode ts, text-short noTextFacts rs, text-rows noTextFacts rs (omega arith), z, lines-capped end vp short (isDouble ts) (length rs))
 
-  rule-right : ruleOf facts (isDouble ts) (not (breaksPaired mode ts) || evenFrom false ts) vp ≡ textRule mode vp ts
+  rule-right : ruleOf facts (isDouble ts) (not (breaksPaired mode ts) || evenFrom false ts) end vp ≡ textRule mode end vp ts
   unfolding ruleOf textRule
   rule-right = rw (right-13, right-14, right-15)
 
@@ -277,11 +290,11 @@ double-scanned {s} k = ap (λ (f : RowFacts). f .height) (k .facts) ∙ whole-he
 
 -- what the two scans tell is the rule
 pub rule-scanned :
-    {s : List ℕ} (mode vp : ℕ) {first : RowScan} {scan : TextScan} → Scanned s 0 first
+    {s : List ℕ} (mode end vp : ℕ) {first : RowScan} {scan : TextScan} → end < 256 → Scanned s 0 first
     → TextScanned s (eqb mode 2 && first .facts .height) scan
-    → ruleOf (scan .facts) (first .facts .height) (not (eqb mode 2 && first .facts .height) || scan .even) vp ≡ textRule mode vp (tokens s)
+    → ruleOf (scan .facts) (first .facts .height) (not (eqb mode 2 && first .facts .height) || scan .even) end vp ≡ textRule mode end vp (tokens s)
 unfolding breaksPaired
-rule-scanned {s} mode vp {first} {scan} k t =
+rule-scanned {s} mode end vp {first} {scan} h k t =
     let d = double-scanned k in
     let u : TextScanned s (eqb mode 2 && isDouble (tokens s)) scan = rw d at t in
-    rw (d, even-paired (eqb mode 2 && isDouble (tokens s)) _ _ (u .even), u .facts) (rule-right mode vp (tokens s))
+    rw (d, even-paired (eqb mode 2 && isDouble (tokens s)) _ _ (u .even), u .facts) (rule-right mode end vp h (tokens s))

@@ -73,11 +73,6 @@ module _ (ts : List Token) where
   first-run (c ∷ cs) =
       first-more (Character c) (map Character cs ++ ts) refl ∙ ap (λ (us : List Token). Character c ∷ us) (first-run cs)
 
-  pub after-run : (cs : List ℕ) → afterRow (map Character cs ++ ts) ≡ afterRow ts
-  unfolding isRowEnd
-  after-run [] = refl
-  after-run (c ∷ cs) = after-more (Character c) (map Character cs ++ ts) refl ∙ after-run cs
-
   pub ended-run : (cs : List ℕ) → isEnded (map Character cs ++ ts) ≡ isEnded ts
   unfolding isRowEnd
   ended-run [] = refl

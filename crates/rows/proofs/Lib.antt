@@ -1,4 +1,5 @@
 pub mod Laws
+pub mod RowEnds
 pub mod Counted
 pub mod RowLoop
 pub mod TextLoop

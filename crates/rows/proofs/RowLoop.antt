@@ -1,46 +1,44 @@
--- The loop over a row, seen from what is left of it, and the row end after it.
+-- The loop over a row, seen from what is left of it.
 -- Assumes nothing.
 use Prim.Native.Nat.{ℕ, _-_, _≤_}
 use native.Mathlib.Omega.{arith}
 use mathlib.Core.Path.{_≡_, refl, sym, ap, _∙_}
 use mathlib.Core.Bool.{true, false, _||_}
 use mathlib.Core.List.{List, [], _∷_, map, _++_}
-use lib.Dec.{leb}
 use lib.ListN.{length, drop}
-use borrow.Author.Tests.{leb-true, leb-false}
 use Rattle.meaning.specs.declared.Token.{Token}
 use Rattle.meaning.specs.declared.Token.the-variants.{Character}
-use Rattle.meaning.specs.Codes.{isRowEnd, isListed, isCharacter, isDoubleHeight, tokens}
+use Rattle.meaning.specs.Codes.{isRowEnd, isListed, isCharacter, takesCell, isDoubleHeight, tokens}
 use Rattle.meaning.specs.Lists.{any}
 use Rattle.meaning.specs.Rows.{isDouble}
 use Rattle.meaning.proofs.ListLaws.{any-cons}
-use Rattle.meaning.proofs.Logic.{by-test, false-not-true}
 use Rattle.charset.specs.declared.Reading.{Reading}
 use Rattle.charset.specs.Plain.{plainRun, plainEnd}
-use Rattle.charset.proofs.Laws.{ReadOn, tokens-end, run-at}
+use Rattle.charset.specs.Reading.{afterRowAt}
+use Rattle.charset.proofs.Positions.{row-over}
+use Rattle.charset.proofs.Laws.{ReadOn, tokens-end, run-at, run-row}
 use Rattle.rows.specs.declared.RowFacts.{RowFacts}
 use Rattle.rows.specs.declared.RowScan.{RowScan}
-use Rattle.rows.specs.declared.EndRead.{EndRead}
-use Rattle.rows.specs.FirstRow.{firstRow, afterRow, isEnded, endFirst, withoutEnd}
+use Rattle.rows.specs.FirstRow.{firstRow, isEnded}
 use Rattle.rows.specs.Scanning.{noRowFacts, withToken, withCharacters, rowFactsFrom}
-use Rattle.rows.specs.Scanned.{Scanned, EndFound}
-use Rattle.rows.proofs.Laws.{double-first, first-none, after-none, ended-none, first-end, after-end, ended-end, first-more, after-more, ended-more, first-run, after-run, ended-run}
+use Rattle.rows.specs.Scanned.{Scanned}
+use Rattle.rows.proofs.Laws.{double-first, first-none, ended-none, first-end, ended-end, first-more, ended-more, first-run, ended-run}
+use Rattle.rows.proofs.RowEnds.{row-end, row-more}
 
 -- the rest of the row from position i makes of the facts so far those of the row from `start`
 pub record RowLeft (s : List ℕ) (start : ℕ) (f : RowFacts) (i : ℕ) : Type 0 where
   pub facts : rowFactsFrom f (firstRow (tokens (drop i s))) ≡ rowFactsFrom noRowFacts (firstRow (tokens (drop start s)))
   pub ended : isEnded (tokens (drop i s)) ≡ isEnded (tokens (drop start s))
-  pub rest : afterRow (tokens (drop i s)) ≡ afterRow (tokens (drop start s))
-  pub from : start ≤ i
+  pub next : afterRowAt s i ≡ afterRowAt s start
 
 -- the facts of a run of characters and what follows it
 run-facts : (cs : List ℕ) (f : RowFacts) (ts : List Token) → rowFactsFrom f (map Character cs ++ ts) ≡ rowFactsFrom (withCharacters f (length cs)) ts
-unfolding rowFactsFrom withCharacters withToken isListed isCharacter isDoubleHeight
+unfolding rowFactsFrom withCharacters withToken isListed isCharacter takesCell isDoubleHeight
 run-facts [] f ts = refl
 run-facts (c ∷ cs) f ts = run-facts cs (withToken f (Character 0)) ts
 
 pub left-start : (s : List ℕ) (start : ℕ) {f : RowFacts} → f ≡ noRowFacts → RowLeft s start f start
-left-start s start e = record { facts = rw e; ended = refl; rest = refl; from = omega arith }
+left-start s start e = record { facts = rw e; ended = refl; next = refl }
 
 module _ {s : List ℕ} {start i : ℕ} {f : RowFacts} (l : RowLeft s start f i) where
   -- a token of the row
@@ -51,8 +49,7 @@ module _ {s : List ℕ} {start i : ℕ} {f : RowFacts} (l : RowLeft s start f i)
       record {
         facts = rw g (sym (ap (rowFactsFrom f) (ap firstRow (o .first) ∙ first-more (r .token) ts e)) ∙ l .facts);
         ended = sym (ap isEnded (o .first) ∙ ended-more (r .token) ts e) ∙ l .ended;
-        rest = sym (ap afterRow (o .first) ∙ after-more (r .token) ts e) ∙ l .rest;
-        from = omega (arith, o .on, l .from);
+        next = sym (row-more o e) ∙ l .next;
       }
 
   -- a run of plain codes, up to e
@@ -66,8 +63,7 @@ module _ {s : List ℕ} {start i : ℕ} {f : RowFacts} (l : RowLeft s start f i)
       (record {
         facts = rw (g, n) (sym (ap (rowFactsFrom f) (ap firstRow (run-at s i) ∙ first-run ts cs) ∙ run-facts cs f (firstRow ts)) ∙ l .facts);
         ended = sym (ap isEnded (run-at s i) ∙ ended-run ts cs) ∙ l .ended;
-        rest = sym (ap afterRow (run-at s i) ∙ after-run ts cs) ∙ l .rest;
-        from = omega (arith, l .from);
+        next = sym (run-row s i) ∙ l .next;
       })
 
   -- the row end
@@ -78,8 +74,7 @@ module _ {s : List ℕ} {start i : ℕ} {f : RowFacts} (l : RowLeft s start f i)
       record {
         facts = sym (ap (rowFactsFrom f) (ap firstRow (o .first) ∙ first-end (r .token) ts e)) ∙ l .facts;
         ended = sym (ap isEnded (o .first) ∙ ended-end (r .token) ts e) ∙ l .ended;
-        rest = sym (ap afterRow (o .first) ∙ after-end (r .token) ts e) ∙ l .rest;
-        on = λ z. (omega (arith, o .on, l .from), o .within);
+        next = sym (row-end o e) ∙ l .next;
       }
 
   -- the end of the text
@@ -90,8 +85,7 @@ module _ {s : List ℕ} {start i : ℕ} {f : RowFacts} (l : RowLeft s start f i)
       record {
         facts = sym (ap (rowFactsFrom f) (ap firstRow t ∙ first-none)) ∙ l .facts;
         ended = sym (ap isEnded t ∙ ended-none) ∙ l .ended;
-        rest = t ∙ sym (ap afterRow t ∙ after-none) ∙ l .rest;
-        on = λ z. absurd (false-not-true z);
+        next = sym (row-over s i h) ∙ l .next;
       }
 
 -- the rest of the first row from position i tells whether the text is double height
@@ -133,36 +127,3 @@ module _ {s : List ℕ} {i : ℕ} (l : HeightLeft s i) where
   pub height-over : length s ≤ i → false ≡ isDouble (tokens s)
   unfolding any
   height-over h = sym (ap (any isDoubleHeight) (ap firstRow (tokens-end s i h) ∙ first-none)) ∙ l .height
-
--- a row end at a position, another token, or nothing
-module _ {s : List ℕ} {i : ℕ} where
-  pub end-found : {r : Reading} → ReadOn s i r → isRowEnd (r .token) ≡ true → EndFound s i (record { found = true; after = r .next })
-  unfolding endFirst withoutEnd
-  end-found o e =
-      record {
-        found = sym (ap endFirst (o .first) ∙ e);
-        rest = sym (ap withoutEnd (o .first) ∙ rw (e, withoutEnd));
-        on = omega (arith, o .on);
-      }
-
-  pub end-other : {r : Reading} → ReadOn s i r → isRowEnd (r .token) ≡ false → EndFound s i (record { found = false; after = i })
-  unfolding endFirst withoutEnd
-  end-other o e =
-      record {
-        found = sym (ap endFirst (o .first) ∙ e);
-        rest = o .first ∙ sym (ap withoutEnd (o .first) ∙ rw (e, withoutEnd));
-        on = omega arith;
-      }
-
-  pub end-over : length s ≤ i → EndFound s i (record { found = false; after = i })
-  unfolding endFirst withoutEnd
-  end-over h =
-      let t = tokens-end s i h in
-      record { found = sym (ap endFirst t); rest = t ∙ sym (ap withoutEnd t); on = omega arith }
-
--- a row end lies within the text
-pub ended-within : (s : List ℕ) (i : ℕ) → isEnded (tokens (drop i s)) ≡ true → i ≤ length s
-ended-within s i e =
-    by-test (leb (length s) i)
-    (λ f. absurd (false-not-true (sym ended-none ∙ sym (ap isEnded (tokens-end s i (leb-true (length s) i f))) ∙ e)))
-    (λ f. omega (arith, leb-false (length s) i f))

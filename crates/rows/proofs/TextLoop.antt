@@ -14,22 +14,11 @@ use Rattle.rows.specs.declared.RowScan.{RowScan}
 use Rattle.rows.specs.declared.EndRead.{EndRead}
 use Rattle.rows.specs.declared.TextFacts.{TextFacts}
 use Rattle.rows.specs.declared.TextScan.{TextScan}
-use Rattle.rows.specs.FirstRow.{firstRow, afterRow, isEnded, endFirst, withoutEnd, nextRows, rowsOf, rowsAfter}
+use Rattle.rows.specs.FirstRow.{firstRow, afterRow, isEnded, endFirst, nextRows, rowsOf, rowsAfter}
 use Rattle.rows.specs.Scanning.{noRowFacts, rowFactsFrom, noTextFacts, withRow, textFactsFrom}
-use Rattle.rows.specs.Scanned.{Scanned, EndFound, RowAfter, TextScanned}
+use Rattle.rows.specs.Scanned.{Scanned, endAt, nextRowAt, TextScanned}
 use Rattle.rows.proofs.Laws.{rows-first, rows-after, no-rows-after, even-ended, even-open}
-
--- where the next row starts
-pub row-after : {s : List ℕ} (paired : Bool) {next : ℕ} {e : EndRead} {start : ℕ} → EndFound s next e → start ≡ cond paired (e .after) next → RowAfter s paired next start
-row-after {s} true f q = record { rest = ap (λ (n : ℕ). tokens (drop n s)) q ∙ f .rest; on = omega (arith, f .on, q) }
-row-after {s} false f q = record { rest = ap (λ (n : ℕ). tokens (drop n s)) q; on = omega (arith, q) }
-
--- what stands from the next row on
-pub next-rows :
-    {s : List ℕ} {paired : Bool} {next start : ℕ} (row : List Token) → RowAfter s paired next start → tokens (drop next s) ≡ afterRow row
-    → tokens (drop start s) ≡ nextRows paired row
-unfolding nextRows
-next-rows {paired = paired} row q e = q .rest ∙ ap (λ (ts : List Token). cond paired (withoutEnd ts) ts) e
+use Rattle.rows.proofs.RowEnds.{rest-after, on-after, end-first, next-rows}
 
 -- `row` is what stands from the row read last on; the rows after it are still to come
 pub record TextLeft (s : List ℕ) (paired : Bool) (a : TextFacts) (even more : Bool) (next : ℕ) : Type 0 where
@@ -62,38 +51,39 @@ left-first {s} paired {r} k n e =
     record {
       row = tokens s;
       ended = k .ended;
-      rest = k .rest;
+      rest = rest-after s 0 (k .next);
       facts = rw (e, n) (row-on paired noTextFacts (tokens s) (k .facts));
       evens = λ p. refl;
-      within = λ z. k .on z .1;
+      within = λ z. on-after s 0 (k .next) (k .ended) z .1;
     }
 
 module _ {s : List ℕ} {paired : Bool} {a : TextFacts} {even more : Bool} {next : ℕ} (l : TextLeft s paired a even more next) where
-  module _ (m : more ≡ true) {e : EndRead} (f : EndFound s next e) where
+  module _ (m : more ≡ true) {e : EndRead} (f : e ≡ endAt s next) where
     even-next : (ts : List Token) → paired ≡ true → ts ≡ nextRows paired (l .row) → ((even && e .found) && evenFrom false ts) ≡ evenFrom false (tokens s)
     unfolding nextRows
     even-next ts p q =
+        let found : e .found ≡ endFirst (tokens (drop next s)) = ap (λ (x : EndRead). x .found) f ∙ unfold endAt in end-first s next in
         and-assoc even (e .found) (evenFrom false ts)
         ∙ ap (λ (b : Bool). even && b)
-        (rw (f .found, l .rest, q, p) (sym (even-ended (l .row) (sym (l .ended) ∙ m))))
+        (rw (found, l .rest, q, p) (sym (even-ended (l .row) (sym (l .ended) ∙ m))))
         ∙ l .evens p
 
     pub left-next :
-        {start : ℕ} {r : RowScan} {b : TextFacts} → RowAfter s paired next start → Scanned s start r → b ≡ withRow a (r .facts)
+        {start : ℕ} {r : RowScan} {b : TextFacts} → start ≡ nextRowAt s paired next → Scanned s start r → b ≡ withRow a (r .facts)
         → TextLeft s paired b (even && e .found) (r .ended) (r .next)
     left-next {start} {r} q k g =
         record {
           row = tokens (drop start s);
           ended = k .ended;
-          rest = k .rest;
+          rest = rest-after s start (k .next);
           facts =
               rw g
               (row-on paired a (tokens (drop start s)) (k .facts)
-              ∙ ap (λ (ts : List Token). textFactsFrom a (rowsOf paired ts)) (next-rows (l .row) q (l .rest))
+              ∙ ap (λ (ts : List Token). textFactsFrom a (rowsOf paired ts)) (next-rows s paired next (l .row) q (l .rest))
               ∙ ap (textFactsFrom a) (sym (rows-after paired (l .row) (sym (l .ended) ∙ m)))
               ∙ l .facts);
-          evens = λ p. even-next (tokens (drop start s)) p (next-rows (l .row) q (l .rest));
-          within = λ z. k .on z .1;
+          evens = λ p. even-next (tokens (drop start s)) p (next-rows s paired next (l .row) q (l .rest));
+          within = λ z. on-after s start (k .next) (k .ended) z .1;
         }
 
   pub left-last : more ≡ false → TextScanned s paired (record { facts = a; even = even })

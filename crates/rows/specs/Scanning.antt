@@ -7,7 +7,7 @@ use lib.Dec.{ltb, leb}
 use Rattle.meaning.specs.declared.Token.{Token}
 use Rattle.meaning.specs.declared.Token.the-variants.{Character}
 use Rattle.meaning.specs.Lists.{firstBroken}
-use Rattle.meaning.specs.Codes.{isListed, isCharacter, isDoubleHeight}
+use Rattle.meaning.specs.Codes.{isListed, isCharacter, takesCell, isDoubleHeight}
 use Rattle.meaning.specs.Rows.{linesOf}
 use Rattle.rows.specs.declared.RowFacts.{RowFacts}
 use Rattle.rows.specs.declared.TextFacts.{TextFacts}
@@ -28,7 +28,7 @@ noRowFacts = record { cells = 0; listed = true; height = false; character = fals
 unfoldable pub withToken : RowFacts → Token → RowFacts
 withToken f t =
     record {
-      cells = moreUpTo 65 (f .cells);
+      cells = cond (takesCell t) (moreUpTo 65 (f .cells)) (f .cells);
       listed = isListed t && f .listed;
       height = isDoubleHeight t || f .height;
       character = isCharacter t || f .character;
@@ -55,7 +55,7 @@ withRow a f =
       height = a .height || f .height;
       ordered = a .ordered && f .ordered;
       short = a .short && leb (f .cells) 64;
-      rows = moreUpTo 255 (a .rows);
+      rows = moreUpTo 256 (a .rows);
     }
 
 unfoldable pub textFactsFrom : TextFacts → List (List Token) → TextFacts
@@ -63,10 +63,10 @@ textFactsFrom a [] = a
 textFactsFrom a (r ∷ rs) = textFactsFrom (withRow a (rowFactsFrom noRowFacts r)) rs
 
 -- the number of the first of the rules 13 to 15 that the facts of a text break, or 0
-unfoldable pub ruleOf : TextFacts → Bool → Bool → ℕ → ℕ
-ruleOf f double even vp =
+unfoldable pub ruleOf : TextFacts → Bool → Bool → ℕ → ℕ → ℕ
+ruleOf f double even end vp =
     firstBroken
     ((13, f .listed)
     ∷ (14, f .ordered && (double || not (f .height)) && even)
-    ∷ (15, f .short && leb (vp + linesOf double (record { 0 = f .rows }) .0) 24)
+    ∷ (15, f .short && leb (vp + linesOf double (record { 0 = f .rows }) .0) end)
     ∷ [])

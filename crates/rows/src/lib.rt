@@ -7,7 +7,7 @@ ghost use Rattle.meaning.specs.Lists.{firstBroken};
 ghost use Rattle.meaning.specs.Codes.{tokens, isRowEnd, isDoubleHeight};
 ghost use Rattle.meaning.specs.Rows.{isDouble, textRule};
 ghost use Rattle.rows.specs.Scanning.{moreUpTo, manyUpTo, noRowFacts, withToken, withCharacters, noTextFacts, withRow, ruleOf};
-ghost use Rattle.rows.specs.Scanned.{Scanned, EndFound, RowAfter, TextScanned};
+ghost use Rattle.rows.specs.Scanned.{Scanned, endAt, nextRowAt, TextScanned};
 use meaning::Rows;
 use meaning::Token;
 
@@ -28,7 +28,7 @@ pub struct RowScan {
     pub next: usize,
 }
 
-// What is known of all rows; they are counted up to 255.
+// What is known of all rows; they are counted up to 256.
 pub struct TextFacts {
     pub listed: bool,
     pub height: bool,
@@ -148,7 +148,7 @@ impl TextFacts {
             height: self.height | f.height,
             ordered: self.ordered & f.ordered,
             short: self.short & (f.cells <= 64),
-            rows: more_up_to(255, self.rows),
+            rows: more_up_to(256, self.rows),
         }
     }
 }
@@ -187,7 +187,7 @@ pub struct EndRead {
 }
 
 fn end_at(text: &[u8], i: usize) -> EndRead
-    ensures { λ r. ⌜ EndFound (now (text .entry)) i r ⌝ }
+    ensures { λ r. ⌜ r ≡ endAt (now (text .entry)) i ⌝ }
 {
     if i < text.len() {
         let read = charset::reading_at(text, i);
@@ -214,7 +214,7 @@ fn row_start(paired: bool, second: usize, first: usize) -> usize
 
 // Where the row after a row end starts, given the position after that row end.
 pub fn row_after(text: &[u8], paired: bool, next: usize) -> usize
-    ensures { λ r. ⌜ RowAfter (now (text .entry)) paired next r ⌝ }
+    ensures { λ r. ⌜ r ≡ nextRowAt (now (text .entry)) paired next ⌝ }
 {
     let second = end_at(text, next);
     row_start(paired, second.after, next)
@@ -283,18 +283,18 @@ fn first_broken(listed: bool, heights: bool, fits: bool) -> u64
     }
 }
 
-fn rule_of(facts: TextFacts, double: bool, even: bool, vp: u8) -> u64
-    ensures { λ r. ⌜ r ≡ ruleOf facts double even vp ⌝ }
+fn rule_of(facts: TextFacts, double: bool, even: bool, end: u8, vp: u8) -> u64
+    ensures { λ r. ⌜ r ≡ ruleOf facts double even end vp ⌝ }
 {
     let heights = facts.ordered & (double | !facts.height) & even;
     let lines = Rows(facts.rows).lines(double);
     let last = vp as u64 + lines.0;
-    first_broken(facts.listed, heights, facts.short & (last <= 24))
+    first_broken(facts.listed, heights, facts.short & (last <= end as u64))
 }
 
-// The first of the rules 13, 14 and 15 that a set's text breaks, or 0.
-pub fn text_rule(text: &[u8], mode: u64, vp: u8) -> u64
-    ensures { λ r. ⌜ r ≡ textRule mode vp (tokens (now (text .entry))) ⌝ }
+// The first of the rules 13, 14 and 15 that a set's text breaks, or 0. Its lines must end before line `end`.
+pub fn text_rule(text: &[u8], mode: u64, end: u8, vp: u8) -> u64
+    ensures { λ r. ⌜ r ≡ textRule mode end vp (tokens (now (text .entry))) ⌝ }
 {
     let first = scan_row(text, 0);
     let f = first.facts;
@@ -302,5 +302,5 @@ pub fn text_rule(text: &[u8], mode: u64, vp: u8) -> u64
     let paired = (mode == 2) & double;
     let scan = scan_after(text, paired, first);
     let facts = scan.facts;
-    rule_of(facts, double, !paired | scan.even, vp)
+    rule_of(facts, double, !paired | scan.even, end, vp)
 }

@@ -9,7 +9,8 @@ use mathlib.Core.Path.{_≡_, sym, _∙_}
 use lib.Dec.{ltb, eqb}
 use borrow.Author.Tests.{lt-ltb, le-ltb, eq-eqb, ne-eqb, ltb-true}
 use Rattle.meaning.proofs.Logic.{by-test, and-parts}
-use Rattle.meaning.specs.Blocks.{Time, timeInRange, inFrames, timesRight}
+use Rattle.meaning.specs.declared.Time.{Time}
+use Rattle.meaning.specs.Blocks.{timeInRange, inFrames, timesRight}
 
 -- s and t seconds with f and g parts, of which a second has m
 earlier : (m s t f g : ℕ) → f < m → s < t → s * m + f < t * m + g

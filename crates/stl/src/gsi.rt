@@ -6,9 +6,11 @@ ghost use Prim.Native.Nat.{_-_, _%_, _≤_};
 ghost use lib.Dec.{leb, eqb};
 ghost use lib.ListN.{length, getD};
 ghost use Rattle.meaning.specs.Lists.{all, same};
-ghost use Rattle.meaning.specs.Gsi.{rateOf, blockCount, isDigit, valueFrom, fileRule};
+ghost use Rattle.meaning.specs.Gsi.{rateOf, formatOf, blockCount, isDigit, valueFrom, fileRule};
 use crate::rules::in_turn;
 use block::field;
+use meaning::Format;
+use meaning::Screen;
 
 fn same(a: &[u8], b: &[u8]) -> bool
     ensures { λ r. ⌜ r ≡ same (now (a .entry)) (now (b .entry)) ⌝ }
@@ -37,6 +39,18 @@ pub fn rate(file: &[u8]) -> u64
         return 30;
     }
     0
+}
+
+// How a file is read in a break mode: teletext, lines 1 to 23.
+pub fn format(file: &[u8], mode: u64) -> Format
+    ensures { λ r. ⌜ r ≡ formatOf mode (now (file .entry)) ⌝ }
+{
+    let screen = Screen { first: 1, end: 24 };
+    Format {
+        mode,
+        rate: rate(file),
+        screen,
+    }
 }
 
 pub fn block_count(file: &[u8]) -> usize

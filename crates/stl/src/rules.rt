@@ -2,14 +2,14 @@
 
 ghost use mathlib.Core.Path.{_≡_};
 ghost use mathlib.Core.Bool.{_&&_};
-ghost use mathlib.Core.List.{List};
-ghost use lib.Dec.{leb};
-ghost use Prim.Native.Nat.{ℕ, _+_, _*_};
+ghost use lib.Dec.{ltb, leb};
+ghost use Prim.Native.Nat.{_+_, _*_};
 ghost use Rattle.meaning.specs.Blocks.{timeInRange, timesRight, firstBlockRule};
 ghost use Rattle.stl.specs.InTurn.{inTurn};
-ghost use Rattle.block.specs.IsHeader.{timeOf, IsHeader};
-use block::Header;
-use block::Time;
+use meaning::Format;
+use meaning::Header;
+use meaning::Screen;
+use meaning::Time;
 
 // Every rule is tested; of those that fail the first counts.
 pub(crate) fn in_turn(first: u64, number: u64, holds: bool) -> u64
@@ -22,7 +22,7 @@ pub(crate) fn in_turn(first: u64, number: u64, holds: bool) -> u64
 }
 
 fn in_range(t: Time, rate: u64) -> bool
-    ensures { λ r. ⌜ r ≡ timeInRange rate (timeOf t) ⌝ }
+    ensures { λ r. ⌜ r ≡ timeInRange rate t ⌝ }
 {
     (t.hours < 24) & (t.minutes < 60) & (t.seconds < 60) & ((t.frames as u64) < rate)
 }
@@ -36,20 +36,20 @@ fn in_256ths(t: Time) -> u32
 
 // Times in range stand in the same order in frames and in 256ths of a second, and these fit whatever the rate.
 fn times_right(start: Time, stop: Time, rate: u64) -> bool
-    ensures { λ r. ⌜ r ≡ timesRight rate (timeOf start) (timeOf stop) ⌝ }
+    ensures { λ r. ⌜ r ≡ timesRight rate start stop ⌝ }
 {
     in_range(start, rate) & in_range(stop, rate) & (in_256ths(start) < in_256ths(stop))
 }
 
-fn is_placed(vp: u8, jc: u8) -> bool
-    ensures { λ r. ⌜ r ≡ (leb 1 vp && leb vp 23 && leb jc 3) ⌝ }
+fn is_placed(s: Screen, vp: u8, jc: u8) -> bool
+    ensures { λ r. ⌜ r ≡ (leb (s .first) vp && ltb vp (s .end) && leb jc 3) ⌝ }
 {
-    (1 <= vp) & (vp <= 23) & (jc <= 3)
+    (s.first <= vp) & (vp < s.end) & (jc <= 3)
 }
 
 // A comment is tested for 8 and 9 only.
-pub fn first_block_rule(h: Header, rate: u64, least: u32) -> u64
-    ensures { λ r. ⌜ ((b : List ℕ) → IsHeader b h → r ≡ firstBlockRule rate least b) ⌝ }
+pub fn first_block_rule(f: Format, h: Header, least: u32) -> u64
+    ensures { λ r. ⌜ r ≡ firstBlockRule f least h ⌝ }
 {
     let rule = in_turn(0, 8, h.cf <= 1);
     let rule = in_turn(rule, 9, least <= h.sn as u32);
@@ -57,6 +57,6 @@ pub fn first_block_rule(h: Header, rate: u64, least: u32) -> u64
         return rule;
     }
     let rule = in_turn(rule, 10, h.cs == 0);
-    let rule = in_turn(rule, 11, times_right(h.tci, h.tco, rate));
-    in_turn(rule, 12, is_placed(h.vp, h.jc))
+    let rule = in_turn(rule, 11, times_right(h.tci, h.tco, f.rate));
+    in_turn(rule, 12, is_placed(f.screen, h.vp, h.jc))
 }

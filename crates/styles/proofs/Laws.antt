@@ -8,6 +8,7 @@ use native.Mathlib.Numerals.{add-one}
 use native.Mathlib.Omega.{arith}
 use lib.ListN.{getD}
 use Rattle.meaning.specs.Lists.{keep, upFrom, joinMap}
+use Rattle.meaning.specs.Looks.{lookCount}
 use Rattle.meaning.specs.Document.{Paragraph, writeStyle, isUsed, looksUsed}
 use Rattle.styles.specs.Styles.{isOn, looksMarked}
 
@@ -26,12 +27,12 @@ join-first f false k ks = refl
 
 -- the lines of the marked looks from one look on
 unfoldable pub linesFrom : List Bool → ℕ → List ℕ
-linesFrom on look = joinMap writeStyle (keep (isOn on) (upFrom (128 - look) look))
+linesFrom on look = joinMap writeStyle (keep (isOn on) (upFrom (lookCount - look) look))
 
-pub lines-next : (on : List Bool) (look : ℕ) → look < 128 → linesFrom on look ≡ cond (getD on look false) (writeStyle look) [] ++ linesFrom on (look + 1)
+pub lines-next : (on : List Bool) (look : ℕ) → look < lookCount → linesFrom on look ≡ cond (getD on look false) (writeStyle look) [] ++ linesFrom on (look + 1)
 unfolding linesFrom upFrom isOn
 lines-next on look h =
-    let e : 128 - look ≡ suc (128 - (look + 1)) = omega arith in
+    let e : lookCount - look ≡ suc (lookCount - (look + 1)) = omega arith in
     rw (e, add-one, keep-first, join-first)
 
 keep-same : (p q : ℕ → Bool) (n k : ℕ) → ((j : ℕ) → k ≤ j → j < k + n → p j ≡ q j) → keep p (upFrom n k) ≡ keep q (upFrom n k)
@@ -41,6 +42,6 @@ keep-same p q (suc n) k h =
     let e : p k ≡ q k = h k (omega arith) (omega arith) in
     rw (keep-first p, keep-first q, e, keep-same p q n (suc k) (λ j a b. h j (omega arith) (omega arith)))
 
-pub marked-used : (on : List Bool) (ps : List Paragraph) → ((look : ℕ) → look < 128 → getD on look false ≡ isUsed ps look) → looksMarked on ≡ looksUsed ps
+pub marked-used : (on : List Bool) (ps : List Paragraph) → ((look : ℕ) → look < lookCount → getD on look false ≡ isUsed ps look) → looksMarked on ≡ looksUsed ps
 unfolding looksMarked looksUsed isOn
-marked-used on ps h = keep-same (isOn on) (isUsed ps) 128 0 (λ j a b. h j (omega arith))
+marked-used on ps h = keep-same (isOn on) (isUsed ps) lookCount 0 (λ j a b. h j (omega arith))

@@ -6,38 +6,42 @@ ghost use mathlib.Core.Bool.{true, false, cond};
 ghost use mathlib.Core.List.{[]};
 ghost use lib.ListN.{set, replicate};
 ghost use Rattle.meaning.specs.Lists.{joinMap};
+ghost use Rattle.meaning.specs.Looks.{lookCount};
 ghost use Rattle.meaning.specs.Document.{styleName, channel, colourName, writeStyle};
 ghost use Rattle.output.specs.Output.{Wrote};
 ghost use Rattle.styles.specs.Styles.{looksMarked};
 
-// 128 marks, one for each look: all clear at the start, and set for the looks in use.
+// A mark for each look: all clear at the start, and set for the looks in use.
 pub struct Marks {
-    pub on: [bool; 128],
+    pub on: [bool; Look::COUNT],
 }
 
 impl Marks {
     pub fn clear() -> Marks
-        ensures { λ r. ⌜ r .on ≡ replicate 128 false ⌝ }
+        ensures { λ r. ⌜ r .on ≡ replicate lookCount false ⌝ }
     {
-        Marks { on: [false; 128] }
+        Marks {
+            on: [false; Look::COUNT],
+        }
     }
 
-    // There are no looks from 128 on, and so nothing to mark.
-    pub fn marked(mut self, look: usize) -> Marks
+    // A number that no look has marks nothing.
+    pub fn marked(mut self, look: u16) -> Marks
         ensures { λ r. ⌜ r .on ≡ set (self .on) look true ⌝ }
     {
-        if look < 128 {
-            self.on[look] = true;
+        let k = look as usize;
+        if k < Look::COUNT {
+            self.on[k] = true;
         }
         self
     }
 }
 
-pub fn put_style_name(out: &mut [u8], at: usize, look: usize) -> usize
+pub fn put_style_name(out: &mut [u8], at: usize, look: u16) -> usize
     ensures { λ r. ⌜ Wrote (now (out .entry)) at (styleName look) (now (out .exit)) r ⌝ }
 {
     let p = output::put_byte(out, at, b's');
-    output::put_digits3(out, p, look)
+    output::put_digits3(out, p, look as usize)
 }
 
 // One of two texts.
@@ -66,7 +70,7 @@ fn put_colour_name(out: &mut [u8], at: usize, colour: u8) -> usize
 }
 
 // One line of the styling.
-pub fn put_style(out: &mut [u8], at: usize, look: usize) -> usize
+pub fn put_style(out: &mut [u8], at: usize, look: u16) -> usize
     ensures { λ r. ⌜ Wrote (now (out .entry)) at (writeStyle look) (now (out .exit)) r ⌝ }
 {
     let shown = Look::unpack(look);
@@ -81,7 +85,7 @@ pub fn put_style(out: &mut [u8], at: usize, look: usize) -> usize
     output::put(out, p, b"\"/>\n")
 }
 
-fn put_style_if(out: &mut [u8], at: usize, on: bool, look: usize) -> usize
+fn put_style_if(out: &mut [u8], at: usize, on: bool, look: u16) -> usize
     ensures { λ r. ⌜ Wrote (now (out .entry)) at (cond on (writeStyle look) []) (now (out .exit)) r ⌝ }
 {
     if on {
@@ -96,8 +100,8 @@ pub fn put_styles(out: &mut [u8], at: usize, marks: Marks) -> usize
 {
     let mut p = at;
     let mut look = 0;
-    while look < 128 {
-        p = put_style_if(out, p, marks.on[look], look);
+    while look < Look::COUNT {
+        p = put_style_if(out, p, marks.on[look], look as u16);
         look += 1;
     }
     p

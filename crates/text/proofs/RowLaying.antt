@@ -3,7 +3,7 @@
 use Prim.Native.Nat.{ℕ, _-_, _≤_, _<_, _^_, min}
 use native.Mathlib.Omega.{arith}
 use mathlib.Core.Path.{_≡_, sym, ap, subst, _∙_}
-use mathlib.Core.Bool.{Bool}
+use Rattle.meaning.specs.declared.Pen.{Pen}
 use mathlib.Core.List.{List, [], _∷_, _++_, map}
 use lib.Dec.{leb}
 use lib.ListN.{length, take, drop}
@@ -20,12 +20,12 @@ use Rattle.cells.specs.declared.Shown.{Shown}
 use Rattle.cells.specs.declared.SpanRead.{SpanRead}
 use Rattle.cells.specs.Arrays.{cellsAt, cut}
 use Rattle.cells.specs.Decoded.{rowAt, Decoded}
-use Rattle.cells.specs.Ranges.{cellsTo, ShownRange, FirstSpan}
-use Rattle.rows.proofs.RowLoop.{ended-within}
+use Rattle.cells.specs.Ranges.{cellsTo, shownRange, spanAt, ShownRange, FirstSpan}
+use Rattle.cells.proofs.Exact.{range-of, span-of}
 use Rattle.cells.proofs.Laws.{decoded-cells, decoded-lengths, no-spans, shown-spans, first-span}
 use Rattle.text.specs.declared.Tally.{Tally}
 use Rattle.text.specs.declared.RowLaid.{RowLaid}
-use Rattle.text.specs.Laid.{cutCells, Laid, RowDone}
+use Rattle.text.specs.Laid.{cut64, PiecesLaid, RowDone}
 use Rattle.text.proofs.Laws.{LaidLeft, left-all, left-less, left-none}
 
 module _ (characters looks : List ℕ) (n : ℕ) where
@@ -42,9 +42,10 @@ module _ (characters looks : List ℕ) (n : ℕ) where
     pub left : LaidLeft buf t whole out r (from i end)
 
   pub spans-all :
-      {s : Shown} (buf : List ℕ) (t : Tally) → ShownRange characters looks (cut characters looks n) s → length buf < 2 ^ 64
+      {s : Shown} (buf : List ℕ) (t : Tally) → s ≡ shownRange (cellsAt characters looks 0 (cut characters looks n)) → length buf < 2 ^ 64
       → t .at < 2 ^ 64 → t .spans < 2 ^ 64 → SpansLeft buf t (s .end) buf t (s .start)
-  spans-all buf t s h k l =
+  spans-all {s = r} buf t e h k l =
+      let s : ShownRange characters looks (cut characters looks n) r = rw e (range-of characters looks (cut characters looks n)) in
       record {
         short = omega (arith, s .within);
         both = omega (arith, s .within);
@@ -56,12 +57,12 @@ module _ (characters looks : List ℕ) (n : ℕ) where
     uncut : cut characters looks end ≡ end
     uncut = omega (arith, l .short, l .both)
 
-    pub span-here : {s : SpanRead} → FirstSpan characters looks i (cut characters looks end) s → FirstSpan characters looks i end s
-    span-here f = rw uncut at f
+    pub span-here : {s : SpanRead} → s ≡ spanAt i (cellsTo characters looks i (cut characters looks end)) → FirstSpan characters looks i end s
+    span-here e = rw (e, uncut) (span-of characters looks i end)
 
     pub spans-less :
-        {s : SpanRead} {out′ : List ℕ} {r′ : Tally} → FirstSpan characters looks i (cut characters looks end) s → i < end
-        → Laid out r (span (record { look = s .look; characters = take (s .end - i) (drop i characters) }) ∷ []) out′ r′
+        {s : SpanRead} {out′ : List ℕ} {r′ : Tally} → s ≡ spanAt i (cellsTo characters looks i (cut characters looks end)) → i < end
+        → PiecesLaid out r (span (record { look = s .look; characters = take (s .end - i) (drop i characters) }) ∷ []) out′ r′
         → SpansLeft buf t end out′ r′ (s .end)
     spans-less {s} f h p =
         record {
@@ -72,7 +73,7 @@ module _ (characters looks : List ℕ) (n : ℕ) where
               (rw (first-span (span-here f) h (l .short)) at (l .left)) p;
         }
 
-    pub spans-none : end ≤ i → Laid buf t whole out r
+    pub spans-none : end ≤ i → PiecesLaid buf t whole out r
     spans-none h = left-none (rw (no-spans characters looks i end h) at (l .left))
 
 -- a row decoded into arrays of 64 and laid
@@ -89,18 +90,18 @@ cut-64 xs =
     rw m)
 
 pub row-done :
-    {text : List ℕ} {start : ℕ} {double : Bool} {characters looks characters′ looks′ buf now : List ℕ} {t r : Tally} {d : RowRead}
-    → Decoded text start double characters looks characters′ looks′ d → length characters ≡ 64 → length looks ≡ 64
-    → Laid buf t (map span (rowSpans (cellsAt characters′ looks′ 0 (cut characters′ looks′ (d .cells))))) now r
-    → RowDone text start double buf t now (record { tally = r; ended = d .ended; next = d .next })
-unfolding cutCells rowAt
-row-done {text} {start} {double} {characters} {looks} {characters′} {looks′} {d = d} k h l p =
+    {text : List ℕ} {start : ℕ} {pen : Pen} {characters looks characters′ looks′ buf now : List ℕ} {t r : Tally} {d : RowRead}
+    → Decoded text start pen characters looks characters′ looks′ d → length characters ≡ 64 → length looks ≡ 64
+    → PiecesLaid buf t (map span (rowSpans (cellsAt characters′ looks′ 0 (cut characters′ looks′ (d .cells))))) now r
+    → RowDone text start pen buf t now (record { tally = r; ended = d .ended; next = d .next; pen = d .pen })
+unfolding cut64 rowAt
+row-done {text} {start} {pen} {characters} {looks} {characters′} {looks′} {d = d} k h l p =
     let m : cut characters′ looks′ (d .cells) ≡ min (d .cells) 64 = omega (arith, decoded-lengths k) in
-    let c : cellsAt characters′ looks′ 0 (cut characters′ looks′ (d .cells)) ≡ take 64 (rowAt text start double) =
-    rw m (decoded-cells k (min (d .cells) 64) (omega arith) (omega arith) (omega arith) ∙ rw (k .count) (cut-64 (rowAt text start double))) in
+    let c : cellsAt characters′ looks′ 0 (cut characters′ looks′ (d .cells)) ≡ take 64 (rowAt text start pen) =
+    rw m (decoded-cells k (min (d .cells) 64) (omega arith) (omega arith) (omega arith) ∙ rw (k .count) (cut-64 (rowAt text start pen))) in
     record {
       laid = rw c at p;
       ended = k .ended;
-      rest = k .rest;
-      on = λ z. (k .onward z, k .within (ended-within text start (sym (k .ended) ∙ z)));
+      next = k .next;
+      after = k .after;
     }

@@ -1,55 +1,59 @@
 -- A paragraph's content laid over a lent buffer: what is written, counted and marked.
 -- Assumes nothing.
-use Prim.Native.Nat.{ℕ, _≤_, _<_, min}
+use Prim.Native.Nat.{ℕ, min}
 use mathlib.Core.Path.{_≡_}
 use mathlib.Core.Bool.{Bool, true}
 use mathlib.Core.List.{List, [], _∷_, map}
 use lib.ListN.{length, set, take, drop}
-use Rattle.meaning.specs.declared.Token.{Token}
+use Rattle.meaning.specs.declared.Pen.{Pen}
 use Rattle.meaning.specs.Lists.{joinMap}
 use Rattle.meaning.specs.Codes.{tokens}
 use Rattle.meaning.specs.Rows.{isDouble, rows}
-use Rattle.meaning.specs.Cells.{Cell, cells}
-use Rattle.meaning.specs.Document.{Piece, writePiece, countSpans}
+use Rattle.meaning.specs.Cells.{Cell, newPen, cellsOfRow, penAfterRow, cellRows}
+use Rattle.meaning.specs.Document.{Piece, writePiece, looksOf}
 use Rattle.meaning.specs.Document.Piece.{span, br}
 use Rattle.meaning.specs.Conversion.{rowSpans, rowPieces, pieces}
 use Rattle.output.specs.Output.{past, Wrote}
 use Rattle.styles.specs.declared.Marks.{Marks}
-use Rattle.rows.specs.FirstRow.{firstRow, afterRow, isEnded, rowsOf}
+use Rattle.charset.specs.Reading.{afterRowAt}
+use Rattle.rows.specs.FirstRow.{firstRow, isEnded, rowsOf}
 use Rattle.text.specs.declared.Tally.{Tally}
 use Rattle.text.specs.declared.RowLaid.{RowLaid}
 use Rattle.text.specs.declared.RowsLaid.{RowsLaid}
 
--- the marks with the looks of pieces set
-unfoldable pub markedWith : List Bool → List Piece → List Bool
+-- the marks with looks set
+unfoldable pub markedWith : List Bool → List ℕ → List Bool
 markedWith on [] = on
-markedWith on (span s ∷ ps) = markedWith (set on (s .look) true) ps
-markedWith on (br ∷ ps) = markedWith on ps
+markedWith on (l ∷ ls) = markedWith (set on l true) ls
 
--- pieces laid at a tally's position: the bytes, the spans counted, the looks marked
-pub record Laid (buf : List ℕ) (t : Tally) (ps : List Piece) (now : List ℕ) (r : Tally) : Type 0 where
-  pub wrote : Wrote buf (t .at) (joinMap writePiece ps) now (r .at)
-  pub spans : r .spans ≡ past (t .spans) (countSpans ps)
-  pub marks : r .marks .on ≡ markedWith (t .marks .on) ps
+-- bytes laid from a tally on, with spans of the given looks among them: what is written, counted and marked
+pub record Laid (buf : List ℕ) (t : Tally) (bytes looks : List ℕ) (now : List ℕ) (r : Tally) : Type 0 where
+  pub wrote : Wrote buf (t .at) bytes now (r .at)
+  pub spans : r .spans ≡ past (t .spans) (length looks)
+  pub marks : r .marks .on ≡ markedWith (t .marks .on) looks
+
+-- pieces laid from a tally on
+abbrev pub PiecesLaid : List ℕ → Tally → List Piece → List ℕ → Tally → Type 0
+PiecesLaid buf t ps now r = Laid buf t (joinMap writePiece ps) (looksOf ps) now r
 
 -- a row's cells, cut at 64: a text within rule 15 has no longer row
-unfoldable pub cutCells : Bool → List Token → List Cell
-cutCells double r = take 64 (cells double r)
+unfoldable pub cut64 : List Cell → List Cell
+cut64 cs = take 64 cs
 
--- one row of a text laid: its spans, whether a row end follows it, and what follows that
-pub record RowDone (text : List ℕ) (start : ℕ) (double : Bool) (buf : List ℕ) (t : Tally) (now : List ℕ) (r : RowLaid) : Type 0 where
-  pub laid : Laid buf t (map span (rowSpans (cutCells double (firstRow (tokens (drop start text)))))) now (r .tally)
+-- one row of a text laid: its spans, whether a row end follows it, the position after that, and the pen after the row
+pub record RowDone (text : List ℕ) (start : ℕ) (pen : Pen) (buf : List ℕ) (t : Tally) (now : List ℕ) (r : RowLaid) : Type 0 where
+  pub laid : PiecesLaid buf t (map span (rowSpans (cut64 (cellsOfRow pen (firstRow (tokens (drop start text))))))) now (r .tally)
   pub ended : r .ended ≡ isEnded (tokens (drop start text))
-  pub rest : tokens (drop (r .next) text) ≡ afterRow (tokens (drop start text))
-  pub on : r .ended ≡ true → (start < r .next) × (r .next ≤ length text)
+  pub next : r .next ≡ afterRowAt text start
+  pub after : r .pen ≡ penAfterRow pen (firstRow (tokens (drop start text)))
 
--- all rows of a text laid, with their number, counted up to 255
-pub record RowsDone (text : List ℕ) (double paired : Bool) (buf : List ℕ) (t : Tally) (now : List ℕ) (r : RowsLaid) : Type 0 where
-  pub laid : Laid buf t (rowPieces (map (cutCells double) (rowsOf paired (tokens text)))) now (r .tally)
-  pub rows : r .rows ≡ min (length (rowsOf paired (tokens text))) 255
+-- all rows of a text laid, with their number, counted up to 256
+pub record RowsDone (text : List ℕ) (pen : Pen) (paired : Bool) (buf : List ℕ) (t : Tally) (now : List ℕ) (r : RowsLaid) : Type 0 where
+  pub laid : PiecesLaid buf t (rowPieces (map cut64 (cellRows pen (rowsOf paired (tokens text))))) now (r .tally)
+  pub rows : r .rows ≡ min (length (rowsOf paired (tokens text))) 256
 
--- what is laid for a text
-unfoldable pub contentOf : ℕ → ℕ → List ℕ → List Piece
-contentOf mode vp text =
+-- what is laid for a text whose lines end before line `end`
+unfoldable pub contentOf : ℕ → ℕ → ℕ → List ℕ → List Piece
+contentOf mode end vp text =
     let ts = tokens text in
-    pieces vp (isDouble ts) (map (cutCells (isDouble ts)) (rows mode ts))
+    pieces end vp (isDouble ts) (map cut64 (cellRows (newPen (isDouble ts)) (rows mode ts)))

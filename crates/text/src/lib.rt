@@ -5,13 +5,14 @@ ghost use Prim.Native.Nat.{_+_, min};
 ghost use mathlib.Core.List.{[], _∷_, map};
 ghost use lib.ListN.{length, take, drop, replicate};
 ghost use Rattle.meaning.specs.Lists.{joinMap};
-ghost use Rattle.meaning.specs.Document.{escaped};
+ghost use Rattle.meaning.specs.Document.{escaped, writePiece};
 ghost use Rattle.meaning.specs.Document.Piece.{span, br};
 ghost use Rattle.meaning.specs.Conversion.{rowSpans, fillers};
 ghost use Rattle.cells.specs.Arrays.{cellsAt, cut};
 ghost use Rattle.output.specs.Output.{Wrote};
-ghost use Rattle.text.specs.Laid.{Laid, RowDone, RowsDone, contentOf};
+ghost use Rattle.text.specs.Laid.{PiecesLaid, RowDone, RowsDone, contentOf};
 use meaning::Lines;
+use meaning::Pen;
 use meaning::Rows;
 use styles::Marks;
 
@@ -35,8 +36,8 @@ fn put_characters(out: &mut [u8], at: usize, characters: &[u16]) -> usize
     p
 }
 
-fn put_span(out: &mut [u8], t: Tally, characters: &[u16], look: usize) -> Tally
-    ensures { λ r. ⌜ Laid (now (out .entry)) t (span (record { look = look; characters = now (characters .entry) }) ∷ []) (now (out .exit)) r ⌝ }
+fn put_span(out: &mut [u8], t: Tally, characters: &[u16], look: u16) -> Tally
+    ensures { λ r. ⌜ PiecesLaid (now (out .entry)) t (span (record { look = look; characters = now (characters .entry) }) ∷ []) (now (out .exit)) r ⌝ }
 {
     let p = output::put(out, t.at, b"<tt:span style=\"");
     let p = styles::put_style_name(out, p, look);
@@ -51,23 +52,20 @@ fn put_span(out: &mut [u8], t: Tally, characters: &[u16], look: usize) -> Tally
     }
 }
 
-fn put_break(out: &mut [u8], t: Tally) -> Tally
-    ensures { λ r. ⌜ Laid (now (out .entry)) t (br ∷ []) (now (out .exit)) r ⌝ }
+fn put_break(out: &mut [u8], at: usize) -> usize
+    ensures { λ r. ⌜ Wrote (now (out .entry)) at (writePiece br) (now (out .exit)) r ⌝ }
 {
-    let mut r = t;
-    r.at = output::put(out, t.at, b"<tt:br/>");
-    r
+    output::put(out, at, b"<tt:br/>")
 }
 
-// The filler lines between what a subtitle's rows cover and the foot of the page.
-fn filler_lines(vp: u8, covered: Lines) -> u64
-    ensures { λ r. ⌜ r ≡ fillers vp covered .0 ⌝ }
+// The filler lines between what a subtitle's rows cover and the end of the page.
+fn filler_lines(end: u8, vp: u8, covered: Lines) -> u64
+    ensures { λ r. ⌜ r ≡ fillers end vp covered .0 ⌝ }
 {
-    let top = vp as u64;
-    if 24 <= top {
+    if end <= vp {
         return 0;
     }
-    let left = 24 - top;
+    let left = (end - vp) as u64;
     if left <= covered.0 {
         0
     } else {
@@ -75,21 +73,21 @@ fn filler_lines(vp: u8, covered: Lines) -> u64
     }
 }
 
-fn put_breaks(out: &mut [u8], t: Tally, n: u64) -> Tally
-    ensures { λ r. ⌜ Laid (now (out .entry)) t (replicate n br) (now (out .exit)) r ⌝ }
+fn put_breaks(out: &mut [u8], at: usize, n: u64) -> usize
+    ensures { λ r. ⌜ Wrote (now (out .entry)) at (joinMap writePiece (replicate n br)) (now (out .exit)) r ⌝ }
 {
-    let mut r = t;
+    let mut p = at;
     let mut k = 0;
     while k < n {
-        r = put_break(out, r);
+        p = put_break(out, p);
         k += 1;
     }
-    r
+    p
 }
 
 // The spans of what is shown of the first n cells of two arrays.
-fn put_row(out: &mut [u8], t: Tally, characters: &[u16], looks: &[u8], n: usize) -> Tally
-    ensures { λ r. ⌜ Laid (now (out .entry)) t (map span (rowSpans (cellsAt (now (characters .entry)) (now (looks .entry)) 0 (cut (now (characters .entry)) (now (looks .entry)) n)))) (now (out .exit)) r ⌝ }
+fn put_row(out: &mut [u8], t: Tally, characters: &[u16], looks: &[u16], n: usize) -> Tally
+    ensures { λ r. ⌜ PiecesLaid (now (out .entry)) t (map span (rowSpans (cellsAt (now (characters .entry)) (now (looks .entry)) 0 (cut (now (characters .entry)) (now (looks .entry)) n)))) (now (out .exit)) r ⌝ }
 {
     let shown = cells::shown_range(characters, looks, n);
     let end = shown.end;
@@ -104,24 +102,27 @@ fn put_row(out: &mut [u8], t: Tally, characters: &[u16], looks: &[u8], n: usize)
     r
 }
 
-// One row laid, whether a row end follows it, and the position after that.
+// One row laid, whether a row end follows it, the position after that, and the pen after the row.
 pub struct RowLaid {
     pub tally: Tally,
     pub ended: bool,
     pub next: usize,
+    pub pen: Pen,
 }
 
-fn lay_row(out: &mut [u8], t: Tally, text: &[u8], start: usize, double: bool) -> RowLaid
-    ensures { λ r. ⌜ RowDone (now (text .entry)) start double (now (out .entry)) t (now (out .exit)) r ⌝ }
+fn lay_row(out: &mut [u8], t: Tally, text: &[u8], start: usize, before: Pen) -> RowLaid
+    ensures { λ r. ⌜ RowDone (now (text .entry)) start before (now (out .entry)) t (now (out .exit)) r ⌝ }
 {
     let mut characters = [0u16; 64];
-    let mut looks = [0u8; 64];
-    let row = cells::decode_row(text, start, double, &mut characters, &mut looks);
+    let mut looks = [0u16; 64];
+    let row = cells::decode_row(text, start, before, &mut characters, &mut looks);
     let tally = put_row(out, t, &characters, &looks, row.cells);
+    let pen = row.pen;
     RowLaid {
         tally,
         ended: row.ended,
         next: row.next,
+        pen,
     }
 }
 
@@ -132,24 +133,26 @@ pub struct RowsLaid {
 }
 
 fn row_counted(n: u32) -> u32
-    ensures { λ r. ⌜ r ≡ min (n + 1) 255 ⌝ }
+    ensures { λ r. ⌜ r ≡ min (n + 1) 256 ⌝ }
 {
-    if n < 255 { n + 1 } else { 255 }
+    if n < 256 { n + 1 } else { 256 }
 }
 
-fn lay_rows(out: &mut [u8], t: Tally, text: &[u8], double: bool, paired: bool) -> RowsLaid
-    ensures { λ r. ⌜ RowsDone (now (text .entry)) double paired (now (out .entry)) t (now (out .exit)) r ⌝ }
+fn lay_rows(out: &mut [u8], t: Tally, text: &[u8], start: Pen, paired: bool) -> RowsLaid
+    ensures { λ r. ⌜ RowsDone (now (text .entry)) start paired (now (out .entry)) t (now (out .exit)) r ⌝ }
 {
-    let first = lay_row(out, t, text, 0, double);
+    let first = lay_row(out, t, text, 0, start);
     let mut tally = first.tally;
+    let mut pen = first.pen;
     let mut more = first.ended;
     let mut next = first.next;
     let mut rows = 1;
     while more {
-        let start = rows::row_after(text, paired, next);
-        let broken = put_break(out, tally);
-        let row = lay_row(out, broken, text, start, double);
+        let at = rows::row_after(text, paired, next);
+        tally.at = put_break(out, tally.at);
+        let row = lay_row(out, tally, text, at, pen);
         tally = row.tally;
+        pen = row.pen;
         more = row.ended;
         next = row.next;
         rows = row_counted(rows);
@@ -158,14 +161,15 @@ fn lay_rows(out: &mut [u8], t: Tally, text: &[u8], double: bool, paired: bool) -
 }
 
 // A set's text as the content of its paragraph: its rows with a line break between them, then one for each filler line.
-// A row is cut at 64 cells, which no text within rule 15 has more of.
-pub fn put_content(out: &mut [u8], t: Tally, text: &[u8], mode: u64, vp: u8) -> Tally
-    ensures { λ r. ⌜ Laid (now (out .entry)) t (contentOf mode vp (now (text .entry))) (now (out .exit)) r ⌝ }
+// Its lines end before line `end`. A row is cut at 64 cells, which no text within rule 15 has more of.
+pub fn put_content(out: &mut [u8], t: Tally, text: &[u8], mode: u64, end: u8, vp: u8) -> Tally
+    ensures { λ r. ⌜ PiecesLaid (now (out .entry)) t (contentOf mode end vp (now (text .entry))) (now (out .exit)) r ⌝ }
 {
     let double = rows::is_double(text);
     let paired = (mode == 2) & double;
-    let laid = lay_rows(out, t, text, double, paired);
+    let laid = lay_rows(out, t, text, Pen::new(double), paired);
     let lines = Rows(laid.rows).lines(double);
-    let tally = laid.tally;
-    put_breaks(out, tally, filler_lines(vp, lines))
+    let mut tally = laid.tally;
+    tally.at = put_breaks(out, tally.at, filler_lines(end, vp, lines));
+    tally
 }

@@ -2,25 +2,25 @@
 -- Assumes nothing.
 use Prim.Native.Nat.{_-_}
 use native.Mathlib.Omega.{arith}
-use mathlib.Core.Path.{sym, _∙_}
+use mathlib.Core.Path.{refl, sym, _∙_}
 use lib.ListN.{length}
 use Rattle.charset.proofs.Laws.{read-on, run-on}
 use borrow.Author.Needs.{needs}
 use Rattle.cells.proofs.decode_row.Statement.{statement}
 use Rattle.cells.proofs.decode_row.Tie as tie
-use Rattle.cells.proofs.Decoding.{Ahead, ahead-all, small-here, small-after, ahead-more, ahead-run, ahead-row-end, ahead-text-end}
+use Rattle.cells.proofs.Decoding.{cells-one, Ahead, ahead-all, ahead-more, ahead-run, ahead-row-end, ahead-text-end}
 
 abbrev Inv-loop : tie.InvT-loop
-Inv-loop text start double characters₀ looks₀ look₀ i₀ n₀ characters looks look i n = Ahead text start double characters₀ looks₀ characters looks look i n
+Inv-loop text start characters₀ looks₀ pen₀ i₀ n₀ characters looks pen i n = Ahead text start pen₀ characters₀ looks₀ characters looks pen i n
 
 abbrev μ-loop : tie.MeasureT-loop
-μ-loop text start double characters₀ looks₀ look₀ i₀ n₀ characters looks look i n = length text - i
+μ-loop text start characters₀ looks₀ pen₀ i₀ n₀ characters looks pen i n = length text - i
 
-white-on-black-requires : tie.Need-white-on-black-requires Inv-loop μ-loop
-white-on-black-requires c κs = search needs
+row-start-requires : tie.Need-row-start-requires Inv-loop μ-loop
+row-start-requires c κs = search needs
 
 loop-holds : tie.Need-loop-holds Inv-loop μ-loop
-loop-holds c = rw (c .white-on-black .ensures) (ahead-all _ _ _ _ _)
+loop-holds c = ahead-all _ _ _ _ _
 
 token-at-requires : tie.Need-token-at-requires Inv-loop μ-loop
 token-at-requires c κs = search needs
@@ -38,27 +38,17 @@ returns : tie.Need-returns Inv-loop μ-loop
 returns c =
     let t = c .before .before in
     let o = read-on (t .token-at .ensures) (t .before .loop-test .taken) in
-    ahead-row-end (t .before .before .loop .inv) o (sym (c .before .is-row-end .ensures) ∙ c .if1 .taken)
+    let l = t .before .before in
+    ahead-row-end (l .loop .inv) o (sym (c .before .is-row-end .ensures) ∙ c .if1 .taken) (l .before .row-start .ensures)
 
-draw-requires : tie.Need-draw-requires Inv-loop μ-loop
-draw-requires c κs = search needs
-
-put-character-requires : tie.Need-put-character-requires Inv-loop μ-loop
-put-character-requires c κs = search needs
-
-put-look-requires : tie.Need-put-look-requires Inv-loop μ-loop
-put-look-requires c κs =
-    let d = c .before .before .before .before .before .before in
-    let e = d .before in
-    let t = e .before .before in
-    let o = read-on (t .token-at .ensures) (t .before .loop-test .taken) in
-    small-here (t .before .before .loop .inv) o (sym (e .before .is-row-end .ensures) ∙ e .if1 .left) (d .draw .ensures .1)
-
-add-n : tie.Need-add-n Inv-loop μ-loop
-add-n c =
-    let t = c .before .before .before .before .before .before .before .before .before .before .before .before .before in
+put-cell-requires : tie.Need-put-cell-requires Inv-loop μ-loop
+put-cell-requires c κs =
+    let t = c .before .before .before .before in
     let l = t .before .before in
     omega (arith, l .loop .inv .passed, t .before .loop-test .taken, l .before .before .before .before .before .good)
+
+pen-after-requires : tie.Need-pen-after-requires Inv-loop μ-loop
+pen-after-requires c κs = search needs
 
 plain-end-requires : tie.Need-plain-end-requires Inv-loop μ-loop
 plain-end-requires c κs = search needs
@@ -66,7 +56,7 @@ plain-end-requires c κs = search needs
 sub-put-run : tie.Need-sub-put-run Inv-loop μ-loop
 sub-put-run c =
     let p = c .before .before in
-    let t = p .before .before .before .before .before .before .before .before .before .before .before .before .before .before in
+    let t = p .before .before .before .before .before .before .before .before .before .before .before in
     let o = read-on (t .token-at .ensures) (t .before .loop-test .taken) in
     let w = run-on (p .plain-end .ensures) (o .within) in
     w .on
@@ -74,7 +64,7 @@ sub-put-run c =
 part-put-run-start : tie.Need-part-put-run-start Inv-loop μ-loop
 part-put-run-start c =
     let p = c .before .before in
-    let t = p .before .before .before .before .before .before .before .before .before .before .before .before .before .before in
+    let t = p .before .before .before .before .before .before .before .before .before .before .before in
     let o = read-on (t .token-at .ensures) (t .before .loop-test .taken) in
     let w = run-on (p .plain-end .ensures) (o .within) in
     search needs
@@ -82,40 +72,36 @@ part-put-run-start c =
 part-put-run-end : tie.Need-part-put-run-end Inv-loop μ-loop
 part-put-run-end c =
     let p = c .before .before in
-    let t = p .before .before .before .before .before .before .before .before .before .before .before .before .before .before in
+    let t = p .before .before .before .before .before .before .before .before .before .before .before in
     let o = read-on (t .token-at .ensures) (t .before .loop-test .taken) in
     let w = run-on (p .plain-end .ensures) (o .within) in
     search needs
 
 put-run-requires : tie.Need-put-run-requires Inv-loop μ-loop
-put-run-requires c κs =
-    let d = c .before .before .before .before .before .before .before .before .before .before .before .before .before .before in
-    let e = d .before in
-    let t = e .before .before in
-    let o = read-on (t .token-at .ensures) (t .before .loop-test .taken) in
-    small-after (t .before .before .loop .inv) o (sym (e .before .is-row-end .ensures) ∙ e .if1 .left) (d .draw .ensures .2)
+put-run-requires c κs = search needs
 
 sub-n : tie.Need-sub-n Inv-loop μ-loop
 sub-n c =
     let p = c .before .before .before .before .before .before .before .before in
-    let t = p .before .before .before .before .before .before .before .before .before .before .before .before .before .before in
+    let t = p .before .before .before .before .before .before .before .before .before .before .before in
     let o = read-on (t .token-at .ensures) (t .before .loop-test .taken) in
     let w = run-on (p .plain-end .ensures) (o .within) in
     w .on
 
-add-n-2 : tie.Need-add-n-2 Inv-loop μ-loop
-add-n-2 c =
+add-n : tie.Need-add-n Inv-loop μ-loop
+add-n c =
     let p = c .before .before .before .before .before .before .before .before in
-    let t = p .before .before .before .before .before .before .before .before .before .before .before .before .before .before in
+    let t = p .before .before .before .before .before .before .before .before .before .before .before in
     let o = read-on (t .token-at .ensures) (t .before .loop-test .taken) in
     let w = run-on (p .plain-end .ensures) (o .within) in
     let l = t .before .before in
-    omega (arith, l .loop .inv .passed, o .on, w .on, w .within, l .before .before .before .before .before .good)
+    let k = p .before .before .before .before .before .before in
+    omega (arith, l .loop .inv .passed, o .on, w .on, w .within, l .before .before .before .before .before .good, k .put-cell .ensures .2, cells-one (t .token-at .result .token) (l .loop .pen))
 
 loop-less : tie.Need-loop-less Inv-loop μ-loop
 loop-less c =
     let p = c .before .before .before .before .before .before .before .before in
-    let t = p .before .before .before .before .before .before .before .before .before .before .before .before .before .before in
+    let t = p .before .before .before .before .before .before .before .before .before .before .before in
     let o = read-on (t .token-at .ensures) (t .before .loop-test .taken) in
     let w = run-on (p .plain-end .ensures) (o .within) in
     omega (arith, o .on, w .on, w .within)
@@ -124,20 +110,17 @@ loop-again : tie.Need-loop-again Inv-loop μ-loop
 loop-again c =
     let m = c .before .before .before .before in
     let p = m .before .before .before .before in
-    let l = p .before .before .before .before in
-    let q = l .before .before .before .before .before in
-    let d = q .before .before in
-    let e = d .before in
+    let k = p .before .before .before .before .before .before in
+    let e = k .before .before .before in
     let t = e .before .before in
     let o = read-on (t .token-at .ensures) (t .before .loop-test .taken) in
-    let s = d .draw .ensures in
+    let s = k .put-cell .ensures in
     ahead-run
-    (ahead-more (t .before .before .loop .inv) o (sym (e .before .is-row-end .ensures) ∙ e .if1 .left) (s .0) (s .1) (s .2)
-    (q .put-character .ensures)
-    (l .put-look .ensures))
+    (ahead-more (t .before .before .loop .inv) o (sym (e .before .is-row-end .ensures) ∙ e .if1 .left) (p .before .pen-after .ensures) (s .0) (s .1) (s .2))
     (run-on (p .plain-end .ensures) (o .within))
     (m .put-run .ensures .0)
     (m .put-run .ensures .1)
+    refl
 
 same-length-3 : tie.Need-same-length-3 Inv-loop μ-loop
 same-length-3 c = search needs
@@ -146,7 +129,7 @@ same-length-4 : tie.Need-same-length-4 Inv-loop μ-loop
 same-length-4 c = search needs
 
 returns-2 : tie.Need-returns-2 Inv-loop μ-loop
-returns-2 c = ahead-text-end (c .before .loop .inv) (c .loop-test .left)
+returns-2 c = ahead-text-end (c .before .loop .inv) (c .loop-test .left) (c .before .before .row-start .ensures)
 
 pub decode-row-spec : {M : Type 1} → statement M
 decode-row-spec =
@@ -154,24 +137,22 @@ decode-row-spec =
     (tie.spec
     Inv-loop
     μ-loop
-    white-on-black-requires
+    row-start-requires
     loop-holds
     token-at-requires
     is-row-end-requires
     same-length
     same-length-2
     returns
-    draw-requires
-    put-character-requires
-    put-look-requires
-    add-n
+    put-cell-requires
+    pen-after-requires
     plain-end-requires
     sub-put-run
     part-put-run-start
     part-put-run-end
     put-run-requires
     sub-n
-    add-n-2
+    add-n
     loop-less
     loop-again
     same-length-3

@@ -27,6 +27,9 @@ mul-is-blank-on-black c = search needs
 shared-slice-read-is-blank-on-black : tie.Need-shared-slice-read-is-blank-on-black Inv-loop μ-loop
 shared-slice-read-is-blank-on-black c = search needs
 
+mul-is-blank-on-black-2 : tie.Need-mul-is-blank-on-black-2 Inv-loop μ-loop
+mul-is-blank-on-black-2 c = search needs
+
 shared-slice-read-is-blank-on-black-2 :
     tie.Need-shared-slice-read-is-blank-on-black-2 Inv-loop μ-loop
 shared-slice-read-is-blank-on-black-2 c = search needs
@@ -64,6 +67,7 @@ first-shown-spec =
     loop-holds
     mul-is-blank-on-black
     shared-slice-read-is-blank-on-black
+    mul-is-blank-on-black-2
     shared-slice-read-is-blank-on-black-2
     is-blank-on-black-requires
     returns

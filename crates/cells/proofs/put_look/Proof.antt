@@ -9,8 +9,8 @@ use Rattle.cells.proofs.put_look.Tie as tie
 pack-requires : tie.Need-pack-requires
 pack-requires c κs = search needs
 
-cast-looks : tie.Need-cast-looks
-cast-looks c = search needs
+mul-looks : tie.Need-mul-looks
+mul-looks c = search needs
 
 slice-write-looks : tie.Need-slice-write-looks
 slice-write-looks c = search needs
@@ -26,4 +26,4 @@ returns-2 c = sym (set-out _ _ _ (c .if1 .left))
 
 pub put-look-spec : {M : Type 1} → statement M
 put-look-spec =
-    tie.close (tie.spec pack-requires cast-looks slice-write-looks same-length returns returns-2)
+    tie.close (tie.spec pack-requires mul-looks slice-write-looks same-length returns returns-2)

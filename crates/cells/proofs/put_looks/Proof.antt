@@ -18,9 +18,6 @@ abbrev μ-loop : tie.MeasureT-loop
 pack-requires : tie.Need-pack-requires Inv-loop μ-loop
 pack-requires c κs = search needs
 
-cast-packed : tie.Need-cast-packed Inv-loop μ-loop
-cast-packed c = search needs
-
 places-requires : tie.Need-places-requires Inv-loop μ-loop
 places-requires c κs = search needs
 
@@ -29,6 +26,9 @@ loop-holds c = storing-all _ _ _ _ (rw length-replicate (c .places .ensures))
 
 add-looks : tie.Need-add-looks Inv-loop μ-loop
 add-looks c = search needs
+
+mul-looks : tie.Need-mul-looks Inv-loop μ-loop
+mul-looks c = search needs
 
 slice-write-looks : tie.Need-slice-write-looks Inv-loop μ-loop
 slice-write-looks c = search needs
@@ -58,10 +58,10 @@ put-looks-spec =
     Inv-loop
     μ-loop
     pack-requires
-    cast-packed
     places-requires
     loop-holds
     add-looks
+    mul-looks
     slice-write-looks
     add-j
     loop-less

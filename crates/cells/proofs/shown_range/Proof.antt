@@ -3,6 +3,7 @@
 use mathlib.Core.Path.{ap, _∙_}
 use Rattle.meaning.specs.Cells.{trimBack, shown}
 use borrow.Author.Needs.{needs}
+use Rattle.cells.proofs.Exact.{range-exact}
 use Rattle.cells.proofs.shown_range.Statement.{statement}
 use Rattle.cells.proofs.shown_range.Tie as tie
 
@@ -21,7 +22,7 @@ returns c =
     let f = c .before .first-shown .ensures in
     let e = c .end-shown .ensures in
     rw (← (c .before .before .cut-to .ensures))
-    (record { order = e .0; within = e .1; front = f .1; shows = e .2 ∙ ap trimBack (f .1) })
+    (range-exact _ _ _ (record { order = e .0; within = e .1; front = f .1; shows = e .2 ∙ ap trimBack (f .1) }))
 
 pub shown-range-spec : {M : Type 1} → statement M
 shown-range-spec =

@@ -4,61 +4,52 @@ use Prim.Native.Nat.{_-_, _≤_, _<_}
 use native.Mathlib.Omega.{arith}
 use mathlib.Core.Path.{sym, _∙_}
 use mathlib.Core.Logic.{⊎-elim}
-use lib.ListN.{getD}
 use borrow.Author.Tests.{not-true, not-false}
 use borrow.Author.Needs.{needs}
-use Rattle.meaning.specs.Looks.{unpack}
-use Rattle.cells.specs.Arrays.{cellOf}
+use Rattle.cells.specs.Arrays.{packedCell}
 use Rattle.cells.proofs.span_from.Statement.{statement}
 use Rattle.cells.proofs.span_from.Tie as tie
-use Rattle.cells.proofs.Settled.{QuietIf, quiet-next, quiet-here, first-joins}
-use Rattle.cells.proofs.Spanning.{GrownTo, to-start, to-more, to-stop, to-end}
+use Rattle.cells.proofs.Growing.{quiet-test}
+use Rattle.cells.proofs.Spanning.{GrownTo, to-start, to-more, to-quiet, to-stop, to-end}
 
 abbrev Inv-loop : tie.InvT-loop
-Inv-loop characters looks start end first ink₀ known₀ i₀ ink known i =
-    (start < i) × (i ≤ end) × GrownTo characters looks start end i ink × QuietIf (unpack first) ink known
+Inv-loop characters looks start end first fore₀ i₀ fore i =
+    (start < i) × (i ≤ end) × GrownTo characters looks start end i fore
 
 abbrev μ-loop : tie.MeasureT-loop
-μ-loop characters looks start end first ink₀ known₀ i₀ ink known i = end - i
+μ-loop characters looks start end first fore₀ i₀ fore i = end - i
+
+mul-first : tie.Need-mul-first Inv-loop μ-loop
+mul-first c = search needs
 
 shared-slice-read-first : tie.Need-shared-slice-read-first Inv-loop μ-loop
 shared-slice-read-first c = search needs
 
-mul-inked : tie.Need-mul-inked Inv-loop μ-loop
-mul-inked c = search needs
+no-foreground-requires : tie.Need-no-foreground-requires Inv-loop μ-loop
+no-foreground-requires c κs = search needs
 
-shared-slice-read-inked : tie.Need-shared-slice-read-inked Inv-loop μ-loop
-shared-slice-read-inked c = search needs
+mul-foreground-with : tie.Need-mul-foreground-with Inv-loop μ-loop
+mul-foreground-with c = search needs
 
-inked-requires : tie.Need-inked-requires Inv-loop μ-loop
-inked-requires c κs = search needs
+shared-slice-read-foreground-with : tie.Need-shared-slice-read-foreground-with Inv-loop μ-loop
+shared-slice-read-foreground-with c = search needs
 
-mul-settled : tie.Need-mul-settled Inv-loop μ-loop
-mul-settled c = search needs
-
-shared-slice-read-settled : tie.Need-shared-slice-read-settled Inv-loop μ-loop
-shared-slice-read-settled c = search needs
-
-settled-requires : tie.Need-settled-requires Inv-loop μ-loop
-settled-requires c κs = search needs
+foreground-with-requires : tie.Need-foreground-with-requires Inv-loop μ-loop
+foreground-with-requires c κs = search needs
 
 add-i : tie.Need-add-i Inv-loop μ-loop
 add-i c = search needs
 
 loop-holds : tie.Need-loop-holds Inv-loop μ-loop
 loop-holds c =
-    let e = c .before .before .inked .ensures in (
-      search needs,
-      search needs,
-      rw e (to-start _ _ _ _ (c .before .before .before .before .before .before .before .pre .0)),
-      rw e (quiet-next _ _ _ _ (first-joins _ _) (λ h. absurd (omega arith)) (c .settled .ensures)),
-    )
+    let h = c .before .before .before .before .before .before .pre .0 in
+    (search needs, search needs, to-start _ _ _ _ (c .before .before .no-foreground .ensures) (c .foreground-with .ensures) h)
+
+mul-look : tie.Need-mul-look Inv-loop μ-loop
+mul-look c = search needs
 
 shared-slice-read-look : tie.Need-shared-slice-read-look Inv-loop μ-loop
 shared-slice-read-look c = search needs
-
-cast-if1 : tie.Need-cast-if1 Inv-loop μ-loop
-cast-if1 c = record { fits = omega (arith, c .shared-slice-known6 .given (c .before .before .loop .i)) }
 
 mul-character : tie.Need-mul-character Inv-loop μ-loop
 mul-character c = search needs
@@ -69,22 +60,19 @@ shared-slice-read-character c = search needs
 is-joining-requires : tie.Need-is-joining-requires Inv-loop μ-loop
 is-joining-requires c κs = search needs
 
-in-colour-requires : tie.Need-in-colour-requires Inv-loop μ-loop
-in-colour-requires c κs = search needs
+span-look-requires : tie.Need-span-look-requires Inv-loop μ-loop
+span-look-requires c κs = search needs
 
 returns : tie.Need-returns Inv-loop μ-loop
-unfolding cellOf
+unfolding packedCell
 returns c =
-    let t = c .before .before .before .before .before .before in
+    let t = c .before .before .before .before .before .before .before .before in
     let l = t .before .loop in
     let j = sym (c .before .before .is-joining .ensures) ∙ not-true _ (c .before .if2 .taken) in
-    to-stop _ _ _ _ (l .inv .0) (l .inv .2) (t .loop-test .taken) j (c .in-colour .ensures)
+    to-stop _ _ _ _ (l .inv .0) (l .inv .2) (t .loop-test .taken) j (c .span-look .ensures)
 
-inked-requires-2 : tie.Need-inked-requires-2 Inv-loop μ-loop
-inked-requires-2 c κs = search needs
-
-settled-requires-2 : tie.Need-settled-requires-2 Inv-loop μ-loop
-settled-requires-2 c κs = search needs
+foreground-with-requires-2 : tie.Need-foreground-with-requires-2 Inv-loop μ-loop
+foreground-with-requires-2 c κs = search needs
 
 add-i-2 : tie.Need-add-i-2 Inv-loop μ-loop
 add-i-2 c = search needs
@@ -93,39 +81,30 @@ loop-less : tie.Need-loop-less Inv-loop μ-loop
 loop-less c = search needs
 
 loop-again : tie.Need-loop-again Inv-loop μ-loop
-unfolding cellOf
+unfolding packedCell
 loop-again c =
-    let t = c .before .before in
+    let t = c .before .before .before .before in
     let l = t .before .loop in
     ⊎-elim
     (λ w.
     let j = sym (w .2 .ensures) ∙ not-false _ (w .3 .left) in
-    let e = w .6 ∙ w .4 .ensures in (
-      search needs,
-      search needs,
-      rw e (to-more _ _ _ _ (l .inv .0) (l .inv .2) (t .loop-test .taken) j),
-      rw e (quiet-next _ _ _ _ j (l .inv .3) (w .7 ∙ w .5 .ensures)),
-    ))
+    (search needs, search needs, rw (w .5 ∙ w .4 .ensures) (to-more _ _ _ _ (l .inv .0) (l .inv .2) (t .loop-test .taken) j)))
     (λ w.
-    let a = c .before .before .before .before .before .before .before .before .before .before .before .args in
-    let p = getD (a .characters .now) (l .i) 0 in
-    let n = getD (a .looks .now) (l .i) 0 in
-    let q = quiet-here p n (l .inv .3) (w .0 .left) (omega (arith, c .before .shared-slice-known6 .given (l .i))) in (
+    let k = quiet-test _ _ _ (w .0 .left) in (
       search needs,
       search needs,
-      rw (w .1) (rw (q .1) at (to-more _ _ _ _ (l .inv .0) (l .inv .2) (t .loop-test .taken) (q .0))),
-      rw (w .1, w .2) (l .inv .3),
+      rw (w .1) (to-quiet _ _ _ _ (l .inv .0) (l .inv .2) (t .loop-test .taken) (k .0) (k .1)),
     ))
     (c .if1 .came)
 
-in-colour-requires-2 : tie.Need-in-colour-requires-2 Inv-loop μ-loop
-in-colour-requires-2 c κs = search needs
+span-look-requires-2 : tie.Need-span-look-requires-2 Inv-loop μ-loop
+span-look-requires-2 c κs = search needs
 
 returns-2 : tie.Need-returns-2 Inv-loop μ-loop
-unfolding cellOf
+unfolding packedCell
 returns-2 c =
     let l = c .before .before .loop in
-    to-end _ _ _ _ (l .inv .0) (l .inv .2) (omega arith) (c .in-colour2 .ensures)
+    to-end _ _ _ _ (l .inv .0) (l .inv .2) (omega arith) (c .span-look2 .ensures)
 
 pub span-from-spec : {M : Type 1} → statement M
 span-from-spec =
@@ -133,26 +112,24 @@ span-from-spec =
     (tie.spec
     Inv-loop
     μ-loop
+    mul-first
     shared-slice-read-first
-    mul-inked
-    shared-slice-read-inked
-    inked-requires
-    mul-settled
-    shared-slice-read-settled
-    settled-requires
+    no-foreground-requires
+    mul-foreground-with
+    shared-slice-read-foreground-with
+    foreground-with-requires
     add-i
     loop-holds
+    mul-look
     shared-slice-read-look
-    cast-if1
     mul-character
     shared-slice-read-character
     is-joining-requires
-    in-colour-requires
+    span-look-requires
     returns
-    inked-requires-2
-    settled-requires-2
+    foreground-with-requires-2
     add-i-2
     loop-less
     loop-again
-    in-colour-requires-2
+    span-look-requires-2
     returns-2)

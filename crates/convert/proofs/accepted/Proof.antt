@@ -1,4 +1,4 @@
--- `accepted` meets its contract.
+-- `accepted` fills in the counts.
 -- Assumes nothing.
 use Rattle.meaning.specs.Conversion.{acceptance}
 use Rattle.convert.proofs.accepted.Statement.{statement}
@@ -9,4 +9,5 @@ unfolding acceptance
 returns c = λ p e. rw e
 
 pub accepted-spec : {M : Type 1} → statement M
-accepted-spec = tie.close (tie.spec returns)
+accepted-spec =
+    tie.close (tie.spec returns)

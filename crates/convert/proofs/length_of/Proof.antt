@@ -1,6 +1,7 @@
 -- `length_of` measures the head and the tail as they are written, and adds the paragraphs between them.
 -- Assumes nothing.
 use borrow.Author.Needs.{needs}
+use Rattle.convert.specs.Telling.{measured}
 use Rattle.convert.proofs.length_of.Statement.{statement}
 use Rattle.convert.proofs.length_of.Tie as tie
 
@@ -20,6 +21,7 @@ put-tail-requires : tie.Need-put-tail-requires
 put-tail-requires c κs = search needs
 
 returns : tie.Need-returns
+unfolding measured
 returns c =
     let sum = rw (c .before .before .before .before .before .put-head .ensures .next) at (c .before .before .after .ensures) in
     rw sum at (c .before .put-tail .ensures .next)

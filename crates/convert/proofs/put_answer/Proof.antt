@@ -3,7 +3,7 @@
 use mathlib.Core.Path.{_∙_, ap}
 use lib.ListN.{set}
 use borrow.Author.Needs.{needs}
-use Rattle.convert.specs.Measuring.{numbersOf}
+use Rattle.convert.specs.Telling.{numbersOf}
 use Rattle.output.specs.Output.{stored}
 use Rattle.convert.proofs.put_answer.Statement.{statement}
 use Rattle.convert.proofs.put_answer.Tie as tie

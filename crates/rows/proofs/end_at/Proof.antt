@@ -2,8 +2,7 @@
 -- Assumes nothing.
 use mathlib.Core.Path.{sym, _∙_}
 use borrow.Author.Needs.{needs}
-use Rattle.charset.proofs.Laws.{read-on}
-use Rattle.rows.proofs.RowLoop.{end-found, end-other, end-over}
+use Rattle.rows.proofs.RowEnds.{end-found, end-other, end-over}
 use Rattle.rows.proofs.end_at.Statement.{statement}
 use Rattle.rows.proofs.end_at.Tie as tie
 
@@ -14,13 +13,13 @@ is-row-end-requires : tie.Need-is-row-end-requires
 is-row-end-requires c κs = search needs
 
 returns : tie.Need-returns
-returns c = end-found (read-on (c .before .before .reading-at .ensures) (c .before .before .before .if1 .taken)) (sym (c .before .is-row-end .ensures) ∙ c .if2 .taken)
+returns c = end-found _ _ (c .before .before .reading-at .ensures) (sym (c .before .is-row-end .ensures) ∙ c .if2 .taken)
 
 returns-2 : tie.Need-returns-2
-returns-2 c = end-other (read-on (c .before .before .reading-at .ensures) (c .before .before .before .if1 .taken)) (sym (c .before .is-row-end .ensures) ∙ c .if2 .left)
+returns-2 c = end-other _ _ (c .before .before .reading-at .ensures) (sym (c .before .is-row-end .ensures) ∙ c .if2 .left)
 
 returns-3 : tie.Need-returns-3
-returns-3 c = end-over (c .if1 .left)
+returns-3 c = end-over _ _ (c .if1 .left)
 
 pub end-at-spec : {M : Type 1} → statement M
 end-at-spec =

@@ -1,7 +1,8 @@
 -- `row_after` meets its contract.
 -- Assumes nothing.
 use borrow.Author.Needs.{needs}
-use Rattle.rows.proofs.TextLoop.{row-after}
+use mathlib.Core.Path.{_∙_}
+use Rattle.rows.specs.Scanned.{endAt, nextRowAt}
 use Rattle.rows.proofs.row_after.Statement.{statement}
 use Rattle.rows.proofs.row_after.Tie as tie
 
@@ -12,7 +13,8 @@ row-start-requires : tie.Need-row-start-requires
 row-start-requires c κs = search needs
 
 returns : tie.Need-returns
-returns c = row-after _ (c .before .end-at .ensures) (c .row-start .ensures)
+unfolding endAt nextRowAt
+returns c = c .row-start .ensures ∙ rw (c .before .end-at .ensures)
 
 pub row-after-spec : {M : Type 1} → statement M
 row-after-spec = tie.close (tie.spec end-at-requires row-start-requires returns)

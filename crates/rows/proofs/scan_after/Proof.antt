@@ -4,7 +4,8 @@ use Prim.Native.Nat.{suc, _-_}
 use native.Mathlib.Omega.{arith}
 use mathlib.Core.Bool.{cond}
 use lib.ListN.{length}
-use Rattle.rows.proofs.TextLoop.{row-after, TextLeft, left-first, left-next, left-last, less-left}
+use Rattle.rows.proofs.TextLoop.{TextLeft, left-first, left-next, left-last, less-left}
+use Rattle.rows.proofs.RowEnds.{on-after, start-on, started}
 use Rattle.rows.proofs.scan_after.Statement.{statement}
 use Rattle.rows.proofs.scan_after.Tie as tie
 
@@ -39,18 +40,20 @@ loop-less : tie.Need-loop-less Inv-loop μ-loop
 loop-less c =
     let l = c .before .before .before .before .before .before .before .loop in
     let k = c .before .before .scan-row .ensures in
-    let p = c .before .before .before .before .before .before .before .before .before .before .before .before .args .paired in
-    let a = row-after p (c .before .before .before .before .before .end-at .ensures) (c .before .before .before .row-start .ensures) in
+    let g = c .before .before .before .before .before .before .before .before .before .before .before .before .args in
+    let s = g .text .now in
+    let a = started s (g .paired) (l .next) (c .before .before .before .before .before .end-at .ensures) (c .before .before .before .row-start .ensures) in
+    let n = on-after s _ (k .next) (k .ended) in
     rw (c .before .before .before .before .before .before .loop-test .taken)
     (less-left (c .before .before .scan-row .result .ended) (l .next) (c .before .before .scan-row .result .next) _
-    (λ z. (omega (arith, k .on z .0, a .on), k .on z .1)))
+    (λ z. (omega (arith, n z .0, a, start-on s (g .paired) (l .next)), n z .1)))
 
 loop-again : tie.Need-loop-again Inv-loop μ-loop
 loop-again c =
     left-next (c .before .before .before .before .before .before .before .loop .inv)
     (c .before .before .before .before .before .before .loop-test .taken)
     (c .before .before .before .before .before .end-at .ensures)
-    (row-after _ (c .before .before .before .before .before .end-at .ensures) (c .before .before .before .row-start .ensures))
+    (started _ _ _ (c .before .before .before .before .before .end-at .ensures) (c .before .before .before .row-start .ensures))
     (c .before .before .scan-row .ensures)
     (c .with-row2 .ensures)
 

@@ -1,5 +1,6 @@
 -- `text_rule` gives the first of the rules 13 to 15 that a text breaks.
 -- Assumes nothing.
+use native.Mathlib.Omega.{arith}
 use mathlib.Core.Path.{_∙_}
 use borrow.Author.Needs.{needs}
 use Rattle.rows.proofs.Facts.{rule-scanned}
@@ -16,7 +17,7 @@ rule-of-requires : tie.Need-rule-of-requires
 rule-of-requires c κs = search needs
 
 returns : tie.Need-returns
-returns c = c .rule-of .ensures ∙ rule-scanned _ _ (c .before .before .before .before .before .scan-row .ensures) (c .before .before .before .scan-after .ensures)
+returns c = c .rule-of .ensures ∙ rule-scanned _ _ _ (omega arith) (c .before .before .before .before .before .scan-row .ensures) (c .before .before .before .scan-after .ensures)
 
 pub text-rule-spec : {M : Type 1} → statement M
 text-rule-spec =

@@ -12,6 +12,9 @@ returns c = search needs
 sub-left : tie.Need-sub-left
 sub-left c = search needs
 
+cast-left : tie.Need-cast-left
+cast-left c = search needs
+
 sub-result : tie.Need-sub-result
 sub-result c = search needs
 
@@ -24,4 +27,4 @@ unfolding fillers
 returns-3 c = search needs
 
 pub filler-lines-spec : {M : Type 1} → statement M
-filler-lines-spec = tie.close (tie.spec returns sub-left sub-result returns-2 returns-3)
+filler-lines-spec = tie.close (tie.spec returns sub-left cast-left sub-result returns-2 returns-3)

@@ -29,7 +29,7 @@ same-length : tie.Need-same-length
 same-length c = search needs
 
 returns : tie.Need-returns
-returns c = row-done (c .before .before .before .before .before .before .before .before .decode-row .ensures) (length-replicate {A = ℕ} 64 0) (length-replicate {A = ℕ} 64 0) (c .before .before .put-row .ensures)
+returns c = row-done (c .before .before .before .before .before .before .before .before .before .decode-row .ensures) (length-replicate {A = ℕ} 64 0) (length-replicate {A = ℕ} 64 0) (c .before .before .before .put-row .ensures)
 
 pub lay-row-spec : {M : Type 1} → statement M
 lay-row-spec =

@@ -6,22 +6,23 @@ use mathlib.Core.Bool.{cond}
 use mathlib.Core.Path.{refl, _∙_}
 use lib.ListN.{length}
 use Rattle.rows.proofs.TextLoop.{less-left}
+use Rattle.rows.proofs.RowEnds.{on-after, start-on}
 use Rattle.text.proofs.Laws.{laid-length}
 use Rattle.text.proofs.RowsLaying.{RowsLeft, rows-all, rows-less, rows-none}
 use Rattle.text.proofs.lay_rows.Statement.{statement}
 use Rattle.text.proofs.lay_rows.Tie as tie
 
 abbrev Inv-loop : tie.InvT-loop
-Inv-loop out₀ text double paired tally₀ more₀ next₀ rows₀ out tally more next rows = RowsLeft text double paired out₀ tally₀ out tally more next rows
+Inv-loop out₀ text paired tally₀ pen₀ more₀ next₀ rows₀ out tally pen more next rows = RowsLeft text paired out₀ tally₀ pen₀ out tally pen more next rows
 
 abbrev μ-loop : tie.MeasureT-loop
-μ-loop out₀ text double paired tally₀ more₀ next₀ rows₀ out tally more next rows = cond more (suc (length text - next)) 0
+μ-loop out₀ text paired tally₀ pen₀ more₀ next₀ rows₀ out tally pen more next rows = cond more (suc (length text - next)) 0
 
 lay-row-requires : tie.Need-lay-row-requires Inv-loop μ-loop
 lay-row-requires c κs = tt
 
 loop-holds : tie.Need-loop-holds Inv-loop μ-loop
-loop-holds c = rows-all _ _ _ (c .before .before .before .lay-row .ensures)
+loop-holds c = rows-all _ _ (c .before .before .before .before .lay-row .ensures)
 
 row-after-requires : tie.Need-row-after-requires Inv-loop μ-loop
 row-after-requires c κs = tt
@@ -37,23 +38,30 @@ row-counted-requires c κs = tt
 
 loop-less : tie.Need-loop-less Inv-loop μ-loop
 loop-less c =
-    let l = c .before .before .before .before .before .before .before .before .before .before .before .before .loop in
-    let d = c .before .before .before .before .lay-row2 .ensures in
-    let a = c .before .before .before .before .before .before .before .before .before .before .row-after .ensures in
-    rw (c .before .before .before .before .before .before .before .before .before .before .before .loop-test .taken)
-    (less-left (c .before .before .before .before .lay-row2 .result .ended) (l .next) (c .before .before .before .before .lay-row2 .result .next) _
-    (λ z. (omega (arith, d .on z .0, a .on), d .on z .1)))
+    let r = c .before .before .before .before .before in
+    let b = r .before .before .before .before in
+    let a = b .before .before in
+    let l = a .before .before in
+    let d = r .lay-row2 .ensures in
+    let g = l .before .before .before .before .before .before .before .before .before .args in
+    let n = on-after (g .text .now) _ (d .next) (d .ended) in
+    rw (a .before .loop-test .taken)
+    (less-left (r .lay-row2 .result .ended) (l .loop .next) (r .lay-row2 .result .next) _
+    (λ z. (omega (arith, n z .0, a .row-after .ensures, start-on (g .text .now) (g .paired) (l .loop .next)), n z .1)))
 
 loop-again : tie.Need-loop-again Inv-loop μ-loop
 loop-again c =
-    rows-less _ _ _ (c .before .before .before .before .before .before .before .before .before .before .before .before .loop .inv) (c .before .before .before .before .before .before .before .before .before .before .before .loop-test .taken) (c .before .before .before .before .before .before .before .before .before .before .row-after .ensures) (c .before .before .before .before .before .before .before .before .put-break .ensures)
-    (c .before .before .before .before .lay-row2 .ensures) (c .row-counted .ensures)
+    let r = c .before .before .before .before .before in
+    let b = r .before .before .before .before in
+    let a = b .before .before in
+    let l = a .before .before in
+    rows-less _ _ (l .loop .inv) (a .before .loop-test .taken) (a .row-after .ensures) (b .put-break .ensures) (r .lay-row2 .ensures) (c .row-counted .ensures)
 
 same-length : tie.Need-same-length Inv-loop μ-loop
-same-length c = c .before .loop .inv .left .wrote .same ∙ laid-length (c .before .before .before .before .before .lay-row .ensures .laid)
+same-length c = c .before .loop .inv .left .wrote .same ∙ laid-length (c .before .before .before .before .before .before .lay-row .ensures .laid)
 
 returns : tie.Need-returns Inv-loop μ-loop
-returns c = rows-none _ _ _ (c .before .loop .inv) (c .loop-test .left) (c .before .before .before .before .before .lay-row .ensures) refl
+returns c = rows-none _ _ (c .before .loop .inv) (c .loop-test .left) (c .before .before .before .before .before .before .lay-row .ensures) refl refl
 
 pub lay-rows-spec : {M : Type 1} → statement M
 lay-rows-spec =

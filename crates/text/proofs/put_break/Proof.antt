@@ -1,12 +1,8 @@
--- `put_break` meets its contract.
+-- `put_break` writes a tt:br.
 -- Assumes nothing.
-use native.Mathlib.Omega.{arith}
-use mathlib.Core.Path.{refl}
 use borrow.Author.Needs.{needs}
-use Rattle.meaning.specs.Document.{writePiece, countSpans}
-use Rattle.meaning.specs.Lists.{joinMap, bytes}
-use Rattle.output.specs.Output.{past}
-use Rattle.text.specs.Laid.{markedWith}
+use Rattle.meaning.specs.Document.{writePiece}
+use Rattle.meaning.specs.Lists.{bytes}
 use Rattle.text.proofs.put_break.Statement.{statement}
 use Rattle.text.proofs.put_break.Tie as tie
 
@@ -20,8 +16,8 @@ same-length : tie.Need-same-length
 same-length c = search needs
 
 returns : tie.Need-returns
-unfolding joinMap writePiece bytes past countSpans markedWith
-returns c = record { wrote = c .before .before .put .ensures; spans = omega arith; marks = refl }
+unfolding writePiece bytes
+returns c = c .before .before .put .ensures
 
 pub put-break-spec : {M : Type 1} → statement M
 put-break-spec = tie.close (tie.spec slice-aggregate-put put-requires same-length returns)

@@ -1,12 +1,16 @@
 -- `put_content` lays a text as the content of its paragraph.
 -- Assumes nothing.
-use borrow.Author.Needs.{needs}
+use native.Mathlib.Omega.{arith}
 use Rattle.text.proofs.Content.{content-laid}
+use borrow.Author.Needs.{needs}
 use Rattle.text.proofs.put_content.Statement.{statement}
 use Rattle.text.proofs.put_content.Tie as tie
 
 is-double-requires : tie.Need-is-double-requires
 is-double-requires c κs = search needs
+
+new-requires : tie.Need-new-requires
+new-requires c κs = search needs
 
 lay-rows-requires : tie.Need-lay-rows-requires
 lay-rows-requires c κs = search needs
@@ -24,13 +28,21 @@ same-length : tie.Need-same-length
 same-length c = search needs
 
 returns : tie.Need-returns
-returns c = content-laid _ _ (c .before .before .before .before .before .before .before .before .before .before .before .is-double .ensures) (c .before .before .before .before .before .before .before .before .before .lay-rows .ensures) (c .before .before .before .before .before .before .lines .ensures) (c .before .before .before .filler-lines .ensures) (c .before .before .put-breaks .ensures)
+returns c =
+    let b = c .before .before in
+    let n = b .before in
+    let l = n .before .before .before in
+    let r = l .before .before .before in
+    let start = r .before .before .before .before .before .before in
+    content-laid _ _ _ (omega (arith, start .fits, start .good)) (r .before .before .before .is-double .ensures) (r .before .new .ensures) (r .lay-rows .ensures) (l .lines .ensures)
+    (n .filler-lines .ensures) (b .put-breaks .ensures)
 
 pub put-content-spec : {M : Type 1} → statement M
 put-content-spec =
     tie.close
     (tie.spec
     is-double-requires
+    new-requires
     lay-rows-requires
     lines-requires
     filler-lines-requires

@@ -2,7 +2,7 @@
 -- Assumes nothing.
 use mathlib.Core.List.{append-nil}
 use borrow.Author.Needs.{needs}
-use Rattle.meaning.specs.Document.{writePiece, writeSpan, countSpans}
+use Rattle.meaning.specs.Document.{writePiece, writeSpan, looksOf}
 use Rattle.meaning.specs.Lists.{joinMap, joined, bytes}
 use Rattle.output.proofs.Laws.{_⨟_, wrote-as}
 use Rattle.text.specs.Laid.{markedWith}
@@ -43,7 +43,7 @@ same-length : tie.Need-same-length
 same-length c = search needs
 
 returns : tie.Need-returns
-unfolding joinMap writePiece writeSpan joined bytes countSpans markedWith
+unfolding joinMap writePiece writeSpan joined bytes looksOf markedWith
 returns c =
     let c5 = c .before .before .before .before .before in
     let c4 = c5 .before .before .before .before .before in

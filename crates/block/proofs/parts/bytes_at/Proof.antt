@@ -3,7 +3,7 @@
 use mathlib.Core.Path.{_∙_}
 use borrow.Author.Needs.{needs}
 use Rattle.meaning.specs.Gsi.{field}
-use Rattle.block.specs.BlockAt.{blockAt}
+use Rattle.meaning.specs.Blocks.{blockAt}
 use Rattle.block.proofs.Fields.{drop-within}
 use Rattle.block.proofs.parts.bytes_at.Statement.{statement}
 use Rattle.block.proofs.parts.bytes_at.Tie as tie

@@ -2,6 +2,7 @@
 -- Assumes nothing.
 use Prim.Native.Nat.{_≤_, ℕ}
 use native.Mathlib.Omega.{arith}
+use mathlib.Core.Path.{_∙_}
 use lib.ListN.{length, length-replicate}
 use borrow.Author.Needs.{needs}
 use Rattle.output.proofs.Laws.{wrote-placed}
@@ -33,7 +34,7 @@ returns-2 c =
     let b = p .before .before .before .before .args .b .now in
     let s : length b ≤ 16 = omega arith in
     let w = wrote-placed (p .put .ensures) (omega (arith, length-replicate {A = ℕ} 16 0)) in
-    header-filled b 16 (rw w at (c .header-of2 .ensures))
+    rw w at (c .header-of2 .ensures) ∙ header-filled b 16
 
 pub header-in-spec : {M : Type 1} → statement M
 header-in-spec =

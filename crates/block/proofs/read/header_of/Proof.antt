@@ -1,8 +1,7 @@
 -- `header_of` reads each field at its place.
 -- Assumes nothing.
-use mathlib.Core.Path.{refl}
 use borrow.Author.Needs.{needs}
-use Rattle.meaning.specs.Blocks.{sgn, sn, ebn, cs, vp, jc, cf, tci, tco}
+use Rattle.meaning.specs.Blocks.{headerOf}
 use Rattle.block.proofs.read.header_of.Statement.{statement}
 use Rattle.block.proofs.read.header_of.Tie as tie
 
@@ -40,20 +39,10 @@ shared-slice-read-t20 : tie.Need-shared-slice-read-t20
 shared-slice-read-t20 c = search needs
 
 returns : tie.Need-returns
-unfolding sgn sn ebn cs vp jc cf tci tco
+unfolding headerOf
 returns c =
     let t = c .before .before .before in
-    record {
-      sgn = refl;
-      sn = t .before .before .before .before .number .ensures;
-      ebn = refl;
-      cs = refl;
-      tci = t .before .time-at .ensures;
-      tco = t .time-at2 .ensures;
-      vp = refl;
-      jc = refl;
-      cf = refl;
-    }
+    rw (t .before .before .before .before .number .ensures, t .before .time-at .ensures, t .time-at2 .ensures)
 
 pub header-of-spec : {M : Type 1} → statement M
 header-of-spec =

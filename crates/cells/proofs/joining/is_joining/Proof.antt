@@ -1,33 +1,45 @@
 -- `is_joining` tells whether a cell joins a span.
 -- Assumes nothing.
-use Rattle.meaning.specs.Cells.{isBlank}
-use Rattle.meaning.proofs.Grounds.{same-ground}
+use Rattle.cells.specs.Arrays.{packedCell}
+use Rattle.cells.specs.Foregrounds.{joins}
 use borrow.Author.Needs.{needs}
-use Rattle.cells.specs.Arrays.{cellOf}
-use Rattle.cells.specs.Inks.{joins}
 use Rattle.cells.proofs.joining.is_joining.Statement.{statement}
 use Rattle.cells.proofs.joining.is_joining.Tie as tie
 
-packed-ground-requires : tie.Need-packed-ground-requires
-packed-ground-requires c κs = search needs
+packed-shared-requires : tie.Need-packed-shared-requires
+packed-shared-requires c κs = search needs
 
-packed-ground-requires-2 : tie.Need-packed-ground-requires-2
-packed-ground-requires-2 c κs = search needs
+packed-shared-requires-2 : tie.Need-packed-shared-requires-2
+packed-shared-requires-2 c κs = search needs
 
-packed-colour-requires : tie.Need-packed-colour-requires
-packed-colour-requires c κs = search needs
+is-blank-requires : tie.Need-is-blank-requires
+is-blank-requires c κs = search needs
+
+packed-free-requires : tie.Need-packed-free-requires
+packed-free-requires c κs = search needs
+
+packed-free-requires-2 : tie.Need-packed-free-requires-2
+packed-free-requires-2 c κs = search needs
 
 returns : tie.Need-returns
-unfolding joins isBlank cellOf
+unfolding joins packedCell
 returns c =
+    let b = c .before .before .before in
     rw (
-      same-ground _ _,
-      c .before .before .packed-colour .ensures,
-      c .before .before .before .packed-ground2 .ensures,
-      c .before .before .before .before .packed-ground .ensures,
+      c .before .packed-free2 .ensures,
+      c .before .before .packed-free .ensures,
+      b .is-blank .ensures,
+      b .before .packed-shared2 .ensures,
+      b .before .before .packed-shared .ensures,
     )
 
 pub is-joining-spec : {M : Type 1} → statement M
 is-joining-spec =
     tie.close
-    (tie.spec packed-ground-requires packed-ground-requires-2 packed-colour-requires returns)
+    (tie.spec
+    packed-shared-requires
+    packed-shared-requires-2
+    is-blank-requires
+    packed-free-requires
+    packed-free-requires-2
+    returns)

@@ -1,10 +1,9 @@
 -- `first_block_rule` tests the rules in turn.
 -- Assumes nothing.
-use native.Mathlib.Omega.{arith}
 use mathlib.Core.Path.{refl}
 use borrow.Author.Needs.{needs}
 use borrow.Author.Tests.{eq-eqb, ne-eqb}
-use Rattle.meaning.specs.Blocks.{cf, isComment, firstBlockRule}
+use Rattle.meaning.specs.Blocks.{isComment, firstBlockRule}
 use Rattle.meaning.specs.Lists.{all}
 use Rattle.stl.proofs.Turns.{in-turn}
 use Rattle.stl.proofs.rules.first_block_rule.Statement.{statement}
@@ -24,8 +23,7 @@ unfolding firstBlockRule isComment all
 returns c =
     let c2 = c .before .before in
     let c1 = c2 .before .before in
-    λ b h.
-    rw (c2 .in-turn2 .ensures, c1 .in-turn .ensures, h .sn, h .cf, eq-eqb (cf b) 1 (omega arith)) (in-turn _ refl)
+    rw (c2 .in-turn2 .ensures, c1 .in-turn .ensures, eq-eqb _ 1 (c .if1 .taken)) (in-turn _ refl)
 
 in-turn-requires-3 : tie.Need-in-turn-requires-3
 in-turn-requires-3 c κs = search needs
@@ -48,7 +46,6 @@ returns-2 c =
     let c3 = c .before .before .before .before in
     let c2 = c3 .before .before .before .before in
     let c1 = c2 .before .before in
-    λ b h.
     rw (
       c .in-turn5 .ensures,
       c .before .is-placed .ensures,
@@ -57,14 +54,7 @@ returns-2 c =
       c3 .in-turn3 .ensures,
       c2 .in-turn2 .ensures,
       c1 .in-turn .ensures,
-      h .vp,
-      h .jc,
-      h .tci,
-      h .tco,
-      h .cs,
-      h .sn,
-      h .cf,
-      ne-eqb (cf b) 1 (λ e. omega arith),
+      ne-eqb _ 1 (c3 .before .before .if1 .left),
     )
     (in-turn _ refl)
 

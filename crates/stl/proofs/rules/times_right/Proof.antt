@@ -2,7 +2,6 @@
 -- Assumes nothing.
 use borrow.Author.Needs.{needs}
 use Rattle.meaning.specs.Blocks.{inFrames}
-use Rattle.block.specs.IsHeader.{timeOf}
 use Rattle.stl.proofs.Times as times
 use Rattle.stl.proofs.rules.times_right.Statement.{statement}
 use Rattle.stl.proofs.rules.times_right.Tie as tie
@@ -24,7 +23,7 @@ unfolding inFrames
 returns c =
     let a = c .before .before .before .before .args in
     rw (c .in-256ths2 .ensures, c .before .in-256ths .ensures, c .before .before .in-range2 .ensures, c .before .before .before .in-range .ensures)
-    (times.times-right (a .rate) (timeOf (a .start)) (timeOf (a .stop)) (search needs) (search needs))
+    (times.times-right (a .rate) (a .start) (a .stop) (search needs) (search needs))
 
 pub times-right-spec : {M : Type 1} → statement M
 times-right-spec =

@@ -1,2 +1,0 @@
-pub mod BlockAt
-pub mod IsHeader

@@ -1,0 +1,52 @@
+-- `cell_of` gives a token's cell under a pen.
+-- Assumes nothing.
+use mathlib.Core.Path.{refl}
+use Rattle.meaning.specs.Cells.{cellCharacter, lookHere, cellOf}
+use borrow.Author.Needs.{needs}
+use Rattle.cells.proofs.drawing.cell_of.Statement.{statement}
+use Rattle.cells.proofs.drawing.cell_of.Tie as tie
+
+enum-known-token : tie.Need-enum-known-token
+enum-known-token c = search needs
+
+enum-known-token-2 : tie.Need-enum-known-token-2
+enum-known-token-2 c = search needs
+
+control-here-requires : tie.Need-control-here-requires
+control-here-requires c κs = search needs
+
+enum-told : tie.Need-enum-told
+enum-told c = search needs
+
+enum-told-2 : tie.Need-enum-told-2
+enum-told-2 c = search needs
+
+returns : tie.Need-returns
+unfolding cellOf cellCharacter lookHere
+returns c = rw (c .before .token .given .1) (refl, refl)
+
+returns-2 : tie.Need-returns-2
+unfolding cellOf cellCharacter lookHere
+returns-2 c = rw (c .before .before .token2 .given .1) (refl, c .control-here .ensures)
+
+returns-3 : tie.Need-returns-3
+unfolding cellOf cellCharacter lookHere
+returns-3 c = rw (c .enum-told .given .1) (refl, refl)
+
+returns-4 : tie.Need-returns-4
+unfolding cellOf cellCharacter lookHere
+returns-4 c = rw (c .enum-told2 .given .1) (refl, refl)
+
+pub cell-of-spec : {M : Type 1} → statement M
+cell-of-spec =
+    tie.close
+    (tie.spec
+    enum-known-token
+    enum-known-token-2
+    control-here-requires
+    enum-told
+    enum-told-2
+    returns
+    returns-2
+    returns-3
+    returns-4)
