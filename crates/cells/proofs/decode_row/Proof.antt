@@ -16,23 +16,8 @@ Inv-loop text start characters₀ looks₀ pen₀ i₀ n₀ characters looks pen
 abbrev μ-loop : tie.MeasureT-loop
 μ-loop text start characters₀ looks₀ pen₀ i₀ n₀ characters looks pen i n = length text - i
 
-row-start-requires : tie.Need-row-start-requires Inv-loop μ-loop
-row-start-requires c κs = search needs
-
 loop-holds : tie.Need-loop-holds Inv-loop μ-loop
 loop-holds c = ahead-all _ _ _ _ _
-
-token-at-requires : tie.Need-token-at-requires Inv-loop μ-loop
-token-at-requires c κs = search needs
-
-is-row-end-requires : tie.Need-is-row-end-requires Inv-loop μ-loop
-is-row-end-requires c κs = search needs
-
-same-length : tie.Need-same-length Inv-loop μ-loop
-same-length c = search needs
-
-same-length-2 : tie.Need-same-length-2 Inv-loop μ-loop
-same-length-2 c = search needs
 
 returns : tie.Need-returns Inv-loop μ-loop
 returns c =
@@ -46,12 +31,6 @@ put-cell-requires c κs =
     let t = c .before .before .before .before in
     let l = t .before .before in
     omega (arith, l .loop .inv .passed, t .before .loop-test .taken, l .before .before .before .before .before .good)
-
-pen-after-requires : tie.Need-pen-after-requires Inv-loop μ-loop
-pen-after-requires c κs = search needs
-
-plain-end-requires : tie.Need-plain-end-requires Inv-loop μ-loop
-plain-end-requires c κs = search needs
 
 sub-put-run : tie.Need-sub-put-run Inv-loop μ-loop
 sub-put-run c =
@@ -76,9 +55,6 @@ part-put-run-end c =
     let o = read-on (t .token-at .ensures) (t .before .loop-test .taken) in
     let w = run-on (p .plain-end .ensures) (o .within) in
     search needs
-
-put-run-requires : tie.Need-put-run-requires Inv-loop μ-loop
-put-run-requires c κs = search needs
 
 sub-n : tie.Need-sub-n Inv-loop μ-loop
 sub-n c =
@@ -122,39 +98,11 @@ loop-again c =
     (m .put-run .ensures .1)
     refl
 
-same-length-3 : tie.Need-same-length-3 Inv-loop μ-loop
-same-length-3 c = search needs
-
-same-length-4 : tie.Need-same-length-4 Inv-loop μ-loop
-same-length-4 c = search needs
-
 returns-2 : tie.Need-returns-2 Inv-loop μ-loop
 returns-2 c = ahead-text-end (c .before .loop .inv) (c .loop-test .left) (c .before .before .row-start .ensures)
 
 pub decode-row-spec : {M : Type 1} → statement M
 decode-row-spec =
-    tie.close
-    (tie.spec
-    Inv-loop
-    μ-loop
-    row-start-requires
-    loop-holds
-    token-at-requires
-    is-row-end-requires
-    same-length
-    same-length-2
-    returns
-    put-cell-requires
-    pen-after-requires
-    plain-end-requires
-    sub-put-run
-    part-put-run-start
-    part-put-run-end
-    put-run-requires
-    sub-n
-    add-n
-    loop-less
-    loop-again
-    same-length-3
-    same-length-4
-    returns-2)
+    tie.close (tie.spec Inv-loop μ-loop (λ c κs. search needs) loop-holds (λ c κs. search needs) (λ c κs. search needs) (λ c. search needs)
+    (λ c. search needs) returns put-cell-requires (λ c κs. search needs) (λ c κs. search needs) sub-put-run part-put-run-start
+    part-put-run-end (λ c κs. search needs) sub-n add-n loop-less loop-again (λ c. search needs) (λ c. search needs) returns-2)

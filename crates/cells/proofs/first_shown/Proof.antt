@@ -21,33 +21,15 @@ abbrev μ-loop : tie.MeasureT-loop
 loop-holds : tie.Need-loop-holds Inv-loop μ-loop
 loop-holds c = (search needs, ap trimFront (to-all _ _ _))
 
-mul-is-blank-on-black : tie.Need-mul-is-blank-on-black Inv-loop μ-loop
-mul-is-blank-on-black c = search needs
-
-shared-slice-read-is-blank-on-black : tie.Need-shared-slice-read-is-blank-on-black Inv-loop μ-loop
-shared-slice-read-is-blank-on-black c = search needs
-
-mul-is-blank-on-black-2 : tie.Need-mul-is-blank-on-black-2 Inv-loop μ-loop
-mul-is-blank-on-black-2 c = search needs
-
 shared-slice-read-is-blank-on-black-2 :
     tie.Need-shared-slice-read-is-blank-on-black-2 Inv-loop μ-loop
 shared-slice-read-is-blank-on-black-2 c = search needs
-
-is-blank-on-black-requires : tie.Need-is-blank-on-black-requires Inv-loop μ-loop
-is-blank-on-black-requires c κs = search needs
 
 returns : tie.Need-returns Inv-loop μ-loop
 returns c =
     let l = c .before .before .before .before .before .loop in
     let b = sym (c .before .is-blank-on-black .ensures) ∙ not-true _ (c .if1 .taken) in
     (search needs, sym (front-stop _ _ _ _ (c .before .before .before .before .loop-test .taken) b) ∙ l .inv .1)
-
-add-i : tie.Need-add-i Inv-loop μ-loop
-add-i c = search needs
-
-loop-less : tie.Need-loop-less Inv-loop μ-loop
-loop-less c = search needs
 
 loop-again : tie.Need-loop-again Inv-loop μ-loop
 loop-again c =
@@ -60,18 +42,5 @@ returns-2 c = (search needs, sym (front-end _ _ _ _ (c .loop-test .left)) ∙ c 
 
 pub first-shown-spec : {M : Type 1} → statement M
 first-shown-spec =
-    tie.close
-    (tie.spec
-    Inv-loop
-    μ-loop
-    loop-holds
-    mul-is-blank-on-black
-    shared-slice-read-is-blank-on-black
-    mul-is-blank-on-black-2
-    shared-slice-read-is-blank-on-black-2
-    is-blank-on-black-requires
-    returns
-    add-i
-    loop-less
-    loop-again
-    returns-2)
+    tie.close (tie.spec Inv-loop μ-loop loop-holds (λ c. search needs) (λ c. search needs) (λ c. search needs)
+    shared-slice-read-is-blank-on-black-2 (λ c κs. search needs) returns (λ c. search needs) (λ c. search needs) loop-again returns-2)

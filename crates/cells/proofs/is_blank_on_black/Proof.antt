@@ -7,15 +7,9 @@ use Rattle.cells.specs.Arrays.{packedCell}
 use Rattle.cells.proofs.is_blank_on_black.Statement.{statement}
 use Rattle.cells.proofs.is_blank_on_black.Tie as tie
 
-is-blank-requires : tie.Need-is-blank-requires
-is-blank-requires c κs = search needs
-
-packed-background-requires : tie.Need-packed-background-requires
-packed-background-requires c κs = search needs
-
 returns : tie.Need-returns
 unfolding isBlankOnBlack onBlack packedCell
 returns c = rw (c .packed-background .ensures, c .before .is-blank .ensures)
 
 pub is-blank-on-black-spec : {M : Type 1} → statement M
-is-blank-on-black-spec = tie.close (tie.spec is-blank-requires packed-background-requires returns)
+is-blank-on-black-spec = tie.close (tie.spec (λ c κs. search needs) (λ c κs. search needs) returns)

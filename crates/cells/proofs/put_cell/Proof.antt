@@ -9,24 +9,6 @@ use borrow.Author.Needs.{needs}
 use Rattle.cells.proofs.put_cell.Statement.{statement}
 use Rattle.cells.proofs.put_cell.Tie as tie
 
-cell-of-requires : tie.Need-cell-of-requires
-cell-of-requires c κs = search needs
-
-put-character-requires : tie.Need-put-character-requires
-put-character-requires c κs = search needs
-
-put-look-requires : tie.Need-put-look-requires
-put-look-requires c κs = search needs
-
-add-result : tie.Need-add-result
-add-result c = search needs
-
-same-length : tie.Need-same-length
-same-length c = search needs
-
-same-length-2 : tie.Need-same-length-2
-same-length-2 c = search needs
-
 returns : tie.Need-returns
 unfolding cellsOf stored character packedLook
 returns c =
@@ -37,12 +19,5 @@ returns c =
 
 pub put-cell-spec : {M : Type 1} → statement M
 put-cell-spec =
-    tie.close
-    (tie.spec
-    cell-of-requires
-    put-character-requires
-    put-look-requires
-    add-result
-    same-length
-    same-length-2
-    returns)
+    tie.close (tie.spec (λ c κs. search needs) (λ c κs. search needs) (λ c κs. search needs) (λ c. search needs) (λ c. search needs)
+    (λ c. search needs) returns)

@@ -6,21 +6,8 @@ use borrow.Author.Needs.{needs}
 use Rattle.cells.proofs.put_character.Statement.{statement}
 use Rattle.cells.proofs.put_character.Tie as tie
 
-mul-characters : tie.Need-mul-characters
-mul-characters c = search needs
-
-slice-write-characters : tie.Need-slice-write-characters
-slice-write-characters c = search needs
-
-same-length : tie.Need-same-length
-same-length c = search needs
-
-returns : tie.Need-returns
-returns c = search needs
-
 returns-2 : tie.Need-returns-2
 returns-2 c = sym (set-out _ _ _ (c .if1 .left))
 
 pub put-character-spec : {M : Type 1} → statement M
-put-character-spec =
-    tie.close (tie.spec mul-characters slice-write-characters same-length returns returns-2)
+put-character-spec = tie.close (tie.spec (λ c. search needs) (λ c. search needs) (λ c. search needs) (λ c. search needs) returns-2)

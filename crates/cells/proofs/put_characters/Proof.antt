@@ -14,57 +14,19 @@ Inv-loop characters₀ k codes n j₀ characters j = Storing characters₀ k cod
 abbrev μ-loop : tie.MeasureT-loop
 μ-loop characters₀ k codes n j₀ characters j = n - j
 
-places-requires : tie.Need-places-requires Inv-loop μ-loop
-places-requires c κs = search needs
-
 loop-holds : tie.Need-loop-holds Inv-loop μ-loop
 loop-holds c = storing-all _ _ _ _ (c .places .ensures)
-
-shared-slice-read-characters : tie.Need-shared-slice-read-characters Inv-loop μ-loop
-shared-slice-read-characters c = search needs
 
 cast-characters : tie.Need-cast-characters Inv-loop μ-loop
 cast-characters c = omega (arith, c .shared-slice-known2 .given (c .before .before .loop .j))
 
-add-characters : tie.Need-add-characters Inv-loop μ-loop
-add-characters c = search needs
-
-mul-characters : tie.Need-mul-characters Inv-loop μ-loop
-mul-characters c = search needs
-
-slice-write-characters : tie.Need-slice-write-characters Inv-loop μ-loop
-slice-write-characters c = search needs
-
-add-j : tie.Need-add-j Inv-loop μ-loop
-add-j c = search needs
-
-loop-less : tie.Need-loop-less Inv-loop μ-loop
-loop-less c = search needs
-
 loop-again : tie.Need-loop-again Inv-loop μ-loop
 loop-again c = storing-more (c .before .before .loop .inv) (c .before .loop-test .taken) refl
-
-same-length : tie.Need-same-length Inv-loop μ-loop
-same-length c = search needs
 
 returns : tie.Need-returns Inv-loop μ-loop
 returns c = storing-done (c .before .loop .inv) (c .loop-test .left)
 
 pub put-characters-spec : {M : Type 1} → statement M
 put-characters-spec =
-    tie.close
-    (tie.spec
-    Inv-loop
-    μ-loop
-    places-requires
-    loop-holds
-    shared-slice-read-characters
-    cast-characters
-    add-characters
-    mul-characters
-    slice-write-characters
-    add-j
-    loop-less
-    loop-again
-    same-length
-    returns)
+    tie.close (tie.spec Inv-loop μ-loop (λ c κs. search needs) loop-holds (λ c. search needs) cast-characters (λ c. search needs)
+    (λ c. search needs) (λ c. search needs) (λ c. search needs) (λ c. search needs) loop-again (λ c. search needs) returns)

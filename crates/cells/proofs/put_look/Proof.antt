@@ -6,18 +6,6 @@ use borrow.Author.Needs.{needs}
 use Rattle.cells.proofs.put_look.Statement.{statement}
 use Rattle.cells.proofs.put_look.Tie as tie
 
-pack-requires : tie.Need-pack-requires
-pack-requires c κs = search needs
-
-mul-looks : tie.Need-mul-looks
-mul-looks c = search needs
-
-slice-write-looks : tie.Need-slice-write-looks
-slice-write-looks c = search needs
-
-same-length : tie.Need-same-length
-same-length c = search needs
-
 returns : tie.Need-returns
 returns c = rw (c .pack .ensures)
 
@@ -25,5 +13,4 @@ returns-2 : tie.Need-returns-2
 returns-2 c = sym (set-out _ _ _ (c .if1 .left))
 
 pub put-look-spec : {M : Type 1} → statement M
-put-look-spec =
-    tie.close (tie.spec pack-requires mul-looks slice-write-looks same-length returns returns-2)
+put-look-spec = tie.close (tie.spec (λ c κs. search needs) (λ c. search needs) (λ c. search needs) (λ c. search needs) returns returns-2)

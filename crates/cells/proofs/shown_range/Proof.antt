@@ -7,15 +7,6 @@ use Rattle.cells.proofs.Exact.{range-exact}
 use Rattle.cells.proofs.shown_range.Statement.{statement}
 use Rattle.cells.proofs.shown_range.Tie as tie
 
-cut-to-requires : tie.Need-cut-to-requires
-cut-to-requires c κs = search needs
-
-first-shown-requires : tie.Need-first-shown-requires
-first-shown-requires c κs = search needs
-
-end-shown-requires : tie.Need-end-shown-requires
-end-shown-requires c κs = search needs
-
 returns : tie.Need-returns
 unfolding shown
 returns c =
@@ -25,5 +16,4 @@ returns c =
     (range-exact _ _ _ (record { order = e .0; within = e .1; front = f .1; shows = e .2 ∙ ap trimBack (f .1) }))
 
 pub shown-range-spec : {M : Type 1} → statement M
-shown-range-spec =
-    tie.close (tie.spec cut-to-requires first-shown-requires end-shown-requires returns)
+shown-range-spec = tie.close (tie.spec (λ c κs. search needs) (λ c κs. search needs) (λ c κs. search needs) returns)

@@ -7,20 +7,11 @@ use Rattle.cells.proofs.span_at.Statement.{statement}
 use Rattle.cells.proofs.span_at.Tie as tie
 use Rattle.cells.proofs.Spanning.{no-span}
 
-cut-to-requires : tie.Need-cut-to-requires
-cut-to-requires c κs = search needs
-
-cast-t7 : tie.Need-cast-t7
-cast-t7 c = search needs
-
 returns : tie.Need-returns
 returns c = span-exact _ _ _ _ (no-span _ _ _ _ (omega arith))
-
-span-from-requires : tie.Need-span-from-requires
-span-from-requires c κs = search needs
 
 returns-2 : tie.Need-returns-2
 returns-2 c = rw (c .before .before .cut-to .ensures) at (span-exact _ _ _ _ (c .span-from .ensures))
 
 pub span-at-spec : {M : Type 1} → statement M
-span-at-spec = tie.close (tie.spec cut-to-requires cast-t7 returns span-from-requires returns-2)
+span-at-spec = tie.close (tie.spec (λ c κs. search needs) (λ c. search needs) returns (λ c κs. search needs) returns-2)

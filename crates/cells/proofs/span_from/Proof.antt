@@ -19,49 +19,10 @@ Inv-loop characters looks start end first fore₀ i₀ fore i =
 abbrev μ-loop : tie.MeasureT-loop
 μ-loop characters looks start end first fore₀ i₀ fore i = end - i
 
-mul-first : tie.Need-mul-first Inv-loop μ-loop
-mul-first c = search needs
-
-shared-slice-read-first : tie.Need-shared-slice-read-first Inv-loop μ-loop
-shared-slice-read-first c = search needs
-
-no-foreground-requires : tie.Need-no-foreground-requires Inv-loop μ-loop
-no-foreground-requires c κs = search needs
-
-mul-foreground-with : tie.Need-mul-foreground-with Inv-loop μ-loop
-mul-foreground-with c = search needs
-
-shared-slice-read-foreground-with : tie.Need-shared-slice-read-foreground-with Inv-loop μ-loop
-shared-slice-read-foreground-with c = search needs
-
-foreground-with-requires : tie.Need-foreground-with-requires Inv-loop μ-loop
-foreground-with-requires c κs = search needs
-
-add-i : tie.Need-add-i Inv-loop μ-loop
-add-i c = search needs
-
 loop-holds : tie.Need-loop-holds Inv-loop μ-loop
 loop-holds c =
     let h = c .before .before .before .before .before .before .pre .0 in
     (search needs, search needs, to-start _ _ _ _ (c .before .before .no-foreground .ensures) (c .foreground-with .ensures) h)
-
-mul-look : tie.Need-mul-look Inv-loop μ-loop
-mul-look c = search needs
-
-shared-slice-read-look : tie.Need-shared-slice-read-look Inv-loop μ-loop
-shared-slice-read-look c = search needs
-
-mul-character : tie.Need-mul-character Inv-loop μ-loop
-mul-character c = search needs
-
-shared-slice-read-character : tie.Need-shared-slice-read-character Inv-loop μ-loop
-shared-slice-read-character c = search needs
-
-is-joining-requires : tie.Need-is-joining-requires Inv-loop μ-loop
-is-joining-requires c κs = search needs
-
-span-look-requires : tie.Need-span-look-requires Inv-loop μ-loop
-span-look-requires c κs = search needs
 
 returns : tie.Need-returns Inv-loop μ-loop
 unfolding packedCell
@@ -70,15 +31,6 @@ returns c =
     let l = t .before .loop in
     let j = sym (c .before .before .is-joining .ensures) ∙ not-true _ (c .before .if2 .taken) in
     to-stop _ _ _ _ (l .inv .0) (l .inv .2) (t .loop-test .taken) j (c .span-look .ensures)
-
-foreground-with-requires-2 : tie.Need-foreground-with-requires-2 Inv-loop μ-loop
-foreground-with-requires-2 c κs = search needs
-
-add-i-2 : tie.Need-add-i-2 Inv-loop μ-loop
-add-i-2 c = search needs
-
-loop-less : tie.Need-loop-less Inv-loop μ-loop
-loop-less c = search needs
 
 loop-again : tie.Need-loop-again Inv-loop μ-loop
 unfolding packedCell
@@ -97,9 +49,6 @@ loop-again c =
     ))
     (c .if1 .came)
 
-span-look-requires-2 : tie.Need-span-look-requires-2 Inv-loop μ-loop
-span-look-requires-2 c κs = search needs
-
 returns-2 : tie.Need-returns-2 Inv-loop μ-loop
 unfolding packedCell
 returns-2 c =
@@ -108,28 +57,7 @@ returns-2 c =
 
 pub span-from-spec : {M : Type 1} → statement M
 span-from-spec =
-    tie.close
-    (tie.spec
-    Inv-loop
-    μ-loop
-    mul-first
-    shared-slice-read-first
-    no-foreground-requires
-    mul-foreground-with
-    shared-slice-read-foreground-with
-    foreground-with-requires
-    add-i
-    loop-holds
-    mul-look
-    shared-slice-read-look
-    mul-character
-    shared-slice-read-character
-    is-joining-requires
-    span-look-requires
-    returns
-    foreground-with-requires-2
-    add-i-2
-    loop-less
-    loop-again
-    span-look-requires-2
-    returns-2)
+    tie.close (tie.spec Inv-loop μ-loop (λ c. search needs) (λ c. search needs) (λ c κs. search needs) (λ c. search needs)
+    (λ c. search needs) (λ c κs. search needs) (λ c. search needs) loop-holds (λ c. search needs) (λ c. search needs) (λ c. search needs)
+    (λ c. search needs) (λ c κs. search needs) (λ c κs. search needs) returns (λ c κs. search needs) (λ c. search needs) (λ c. search needs)
+    loop-again (λ c κs. search needs) returns-2)

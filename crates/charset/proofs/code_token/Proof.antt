@@ -6,21 +6,8 @@ use Rattle.charset.proofs.Codes.{upper-token}
 use Rattle.charset.proofs.code_token.Statement.{statement}
 use Rattle.charset.proofs.code_token.Tie as tie
 
-low-token-requires : tie.Need-low-token-requires
-low-token-requires c κs = search needs
-
-returns : tie.Need-returns
-returns c = search needs
-
-upper-requires : tie.Need-upper-requires
-upper-requires c κs = search needs
-
-character-of-requires : tie.Need-character-of-requires
-character-of-requires c κs = search needs
-
 returns-2 : tie.Need-returns-2
 returns-2 c = cc (upper-token (c .before .before .before .args .c) (c .before .before .if1 .left))
 
 pub code-token-spec : {M : Type 1} → statement M
-code-token-spec =
-    tie.close (tie.spec low-token-requires returns upper-requires character-of-requires returns-2)
+code-token-spec = tie.close (tie.spec (λ c κs. search needs) (λ c. search needs) (λ c κs. search needs) (λ c κs. search needs) returns-2)

@@ -11,14 +11,8 @@ use Rattle.charset.proofs.Codes.{plain-token, control-token, no-token}
 use Rattle.charset.proofs.low_token.Statement.{statement}
 use Rattle.charset.proofs.low_token.Tie as tie
 
-is-plain-requires : tie.Need-is-plain-requires
-is-plain-requires c κs = search needs
-
 returns : tie.Need-returns
 returns c = sym (plain-token _ (sym (c .before .is-plain .ensures) ∙ c .if1 .taken))
-
-is-control-requires : tie.Need-is-control-requires
-is-control-requires c κs = search needs
 
 returns-2 : tie.Need-returns-2
 returns-2 c = sym (control-token _ (sym (c .before .is-control .ensures) ∙ c .if2 .taken))
@@ -43,6 +37,4 @@ returns-5 c =
     (c .match .rest .1))
 
 pub low-token-spec : {M : Type 1} → statement M
-low-token-spec =
-    tie.close
-    (tie.spec is-plain-requires returns is-control-requires returns-2 returns-3 returns-4 returns-5)
+low-token-spec = tie.close (tie.spec (λ c κs. search needs) returns (λ c κs. search needs) returns-2 returns-3 returns-4 returns-5)

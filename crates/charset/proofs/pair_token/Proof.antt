@@ -5,15 +5,9 @@ use Rattle.meaning.specs.Codes.{pairToken}
 use Rattle.charset.proofs.pair_token.Statement.{statement}
 use Rattle.charset.proofs.pair_token.Tie as tie
 
-pair-requires : tie.Need-pair-requires
-pair-requires c κs = search needs
-
-character-of-requires : tie.Need-character-of-requires
-character-of-requires c κs = search needs
-
 returns : tie.Need-returns
 unfolding pairToken
 returns c = cc
 
 pub pair-token-spec : {M : Type 1} → statement M
-pair-token-spec = tie.close (tie.spec pair-requires character-of-requires returns)
+pair-token-spec = tie.close (tie.spec (λ c κs. search needs) (λ c κs. search needs) returns)

@@ -12,23 +12,8 @@ returns : tie.Need-returns
 unfolding readingAt
 returns c = rw (le-ltb _ _ (c .if1 .taken))
 
-shared-slice-read-c : tie.Need-shared-slice-read-c
-shared-slice-read-c c = search needs
-
-add-after : tie.Need-add-after
-add-after c = search needs
-
-is-accent-requires : tie.Need-is-accent-requires
-is-accent-requires c κs = search needs
-
 shared-slice-read-pair-token : tie.Need-shared-slice-read-pair-token
 shared-slice-read-pair-token c = ltb-true _ _ (and-eq-true-iff (c .before .before .is-accent .result) _ .0 (c .before .if2 .taken) .1)
-
-pair-token-requires : tie.Need-pair-token-requires
-pair-token-requires c κs = search needs
-
-add-next : tie.Need-add-next
-add-next c = search needs
 
 returns-2 : tie.Need-returns-2
 unfolding readingAt isPairAt
@@ -39,9 +24,6 @@ returns-2 c =
       c .before .before .if2 .taken,
       c .pair-token .ensures,
     )
-
-code-token-requires : tie.Need-code-token-requires
-code-token-requires c κs = search needs
 
 returns-3 : tie.Need-returns-3
 unfolding readingAt isPairAt
@@ -55,15 +37,5 @@ returns-3 c =
 
 pub reading-at-spec : {M : Type 1} → statement M
 reading-at-spec =
-    tie.close
-    (tie.spec
-    returns
-    shared-slice-read-c
-    add-after
-    is-accent-requires
-    shared-slice-read-pair-token
-    pair-token-requires
-    add-next
-    returns-2
-    code-token-requires
-    returns-3)
+    tie.close (tie.spec returns (λ c. search needs) (λ c. search needs) (λ c κs. search needs) shared-slice-read-pair-token
+    (λ c κs. search needs) (λ c. search needs) returns-2 (λ c κs. search needs) returns-3)

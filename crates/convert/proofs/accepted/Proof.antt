@@ -9,5 +9,4 @@ unfolding acceptance
 returns c = λ p e. rw e
 
 pub accepted-spec : {M : Type 1} → statement M
-accepted-spec =
-    tie.close (tie.spec returns)
+accepted-spec = tie.close (tie.spec returns)

@@ -9,28 +9,16 @@ use Rattle.convert.proofs.Converting.{right-refused, blocks-bound, righ
 use Rattle.convert.proofs.convert.Statement.{statement}
 use Rattle.convert.proofs.convert.Tie as tie
 
-slice-aggregate-examine : tie.Need-slice-aggregate-examine
-slice-aggregate-examine c = search needs
-
-examine-requires : tie.Need-examine-requires
-examine-requires c κs = search needs
-
 returns : tie.Need-returns
 returns c =
     let b = c .before .before .before .before .before .before .before in
     right-refused _ _ _ (c .before .before .before .before .examine .ensures .0) (λ i. omega (arith, b .shared-slice-known .given i)) (c .if1 .taken)
-
-slice-aggregate-write : tie.Need-slice-aggregate-write
-slice-aggregate-write c = search needs
 
 write-requires : tie.Need-write-requires
 write-requires c κs =
     let e = c .before .before .before .before .before .before .before in
     let b = e .before .before .before in
     (e .examine .kept .1 .1 .1 .0 ∙ length-replicate {A = ℕ} 26992 0, blocks-bound _ _ (b .before .args .out .now) (e .examine .ensures .0) (λ i. omega (arith, b .shared-slice-known .given i)) (c .before .before .before .if1 .left))
-
-same-length : tie.Need-same-length
-same-length c = search needs
 
 returns-2 : tie.Need-returns-2
 returns-2 c =
@@ -40,12 +28,4 @@ returns-2 c =
 
 pub convert-spec : {M : Type 1} → statement M
 convert-spec =
-    tie.close
-    (tie.spec
-    slice-aggregate-examine
-    examine-requires
-    returns
-    slice-aggregate-write
-    write-requires
-    same-length
-    returns-2)
+    tie.close (tie.spec (λ c. search needs) (λ c κs. search needs) returns (λ c. search needs) write-requires (λ c. search needs) returns-2)

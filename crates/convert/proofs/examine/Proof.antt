@@ -5,26 +5,8 @@ use Rattle.convert.proofs.Converting.{rate-low, known-rule, few-blocks,
 use Rattle.convert.proofs.examine.Statement.{statement}
 use Rattle.convert.proofs.examine.Tie as tie
 
-clear-requires : tie.Need-clear-requires
-clear-requires c κs = search needs
-
-file-rule-requires : tie.Need-file-rule-requires
-file-rule-requires c κs = search needs
-
-refused-requires : tie.Need-refused-requires
-refused-requires c κs = search needs
-
 returns : tie.Need-returns
 returns c = known-rule _ _ (c .before .before .file-rule .ensures) _ (c .before .if1 .taken) (c .refused .ensures)
-
-format-requires : tie.Need-format-requires
-format-requires c κs = search needs
-
-block-count-requires : tie.Need-block-count-requires
-block-count-requires c κs = search needs
-
-slice-aggregate-check-blocks : tie.Need-slice-aggregate-check-blocks
-slice-aggregate-check-blocks c = search needs
 
 check-blocks-requires : tie.Need-check-blocks-requires
 check-blocks-requires c κs =
@@ -33,9 +15,6 @@ check-blocks-requires c κs =
 
 told-requires : tie.Need-told-requires
 told-requires c κs = rate-low _ _ (c .before .before .before .before .before .before .before .format .ensures)
-
-same-length : tie.Need-same-length
-same-length c = search needs
 
 returns-2 : tie.Need-returns-2
 returns-2 c =
@@ -47,16 +26,5 @@ returns-2 c =
 
 pub examine-spec : {M : Type 1} → statement M
 examine-spec =
-    tie.close
-    (tie.spec
-    clear-requires
-    file-rule-requires
-    refused-requires
-    returns
-    format-requires
-    block-count-requires
-    slice-aggregate-check-blocks
-    check-blocks-requires
-    told-requires
-    same-length
-    returns-2)
+    tie.close (tie.spec (λ c κs. search needs) (λ c κs. search needs) (λ c κs. search needs) returns (λ c κs. search needs)
+    (λ c κs. search needs) (λ c. search needs) check-blocks-requires told-requires (λ c. search needs) returns-2)

@@ -5,21 +5,6 @@ use Rattle.convert.specs.Telling.{measured}
 use Rattle.convert.proofs.length_of.Statement.{statement}
 use Rattle.convert.proofs.length_of.Tie as tie
 
-slice-aggregate-put-head : tie.Need-slice-aggregate-put-head
-slice-aggregate-put-head c = search needs
-
-put-head-requires : tie.Need-put-head-requires
-put-head-requires c κs = search needs
-
-slice-aggregate-put-tail : tie.Need-slice-aggregate-put-tail
-slice-aggregate-put-tail c = search needs
-
-after-requires : tie.Need-after-requires
-after-requires c κs = search needs
-
-put-tail-requires : tie.Need-put-tail-requires
-put-tail-requires c κs = search needs
-
 returns : tie.Need-returns
 unfolding measured
 returns c =
@@ -28,11 +13,5 @@ returns c =
 
 pub length-of-spec : {M : Type 1} → statement M
 length-of-spec =
-    tie.close
-    (tie.spec
-    slice-aggregate-put-head
-    put-head-requires
-    slice-aggregate-put-tail
-    after-requires
-    put-tail-requires
+    tie.close (tie.spec (λ c. search needs) (λ c κs. search needs) (λ c. search needs) (λ c κs. search needs) (λ c κs. search needs)
     returns)

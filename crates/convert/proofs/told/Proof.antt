@@ -5,39 +5,16 @@ use Rattle.convert.proofs.Converting.{told-refused, told-short, told-go
 use Rattle.convert.proofs.told.Statement.{statement}
 use Rattle.convert.proofs.told.Tie as tie
 
-refused-requires : tie.Need-refused-requires
-refused-requires c κs = search needs
-
 returns : tie.Need-returns
 returns c = told-refused _ _ _ (c .before .if1 .taken) (c .refused .ensures)
 
-cast-length-of : tie.Need-cast-length-of
-cast-length-of c = search needs
-
-length-of-requires : tie.Need-length-of-requires
-length-of-requires c κs = search needs
-
-refused-requires-2 : tie.Need-refused-requires-2
-refused-requires-2 c κs = search needs
-
 returns-2 : tie.Need-returns-2
 returns-2 c = told-short _ _ _ (c .before .before .before .before .before .before .if1 .left) (c .before .before .length-of .ensures) (c .before .if2 .taken) (c .refused2 .ensures)
-
-accepted-requires : tie.Need-accepted-requires
-accepted-requires c κs = search needs
 
 returns-3 : tie.Need-returns-3
 returns-3 c = told-good _ _ _ (c .before .before .before .before .before .before .before .before .if1 .left) (c .before .before .before .before .length-of .ensures) (c .before .before .before .if2 .left) (c .accepted .ensures)
 
 pub told-spec : {M : Type 1} → statement M
 told-spec =
-    tie.close
-    (tie.spec
-    refused-requires
-    returns
-    cast-length-of
-    length-of-requires
-    refused-requires-2
-    returns-2
-    accepted-requires
-    returns-3)
+    tie.close (tie.spec (λ c κs. search needs) returns (λ c. search needs) (λ c κs. search needs) (λ c κs. search needs) returns-2
+    (λ c κs. search needs) returns-3)

@@ -9,57 +9,6 @@ use Rattle.output.proofs.Laws.{_⨟_}
 use Rattle.document.proofs.put_paragraph.Statement.{statement}
 use Rattle.document.proofs.put_paragraph.Tie as tie
 
-slice-aggregate-put : tie.Need-slice-aggregate-put
-slice-aggregate-put c = search needs
-
-put-requires : tie.Need-put-requires
-put-requires c κs = search needs
-
-put-decimal-requires : tie.Need-put-decimal-requires
-put-decimal-requires c κs = search needs
-
-slice-aggregate-put-2 : tie.Need-slice-aggregate-put-2
-slice-aggregate-put-2 c = search needs
-
-put-requires-2 : tie.Need-put-requires-2
-put-requires-2 c κs = search needs
-
-put-alignment-requires : tie.Need-put-alignment-requires
-put-alignment-requires c κs = search needs
-
-slice-aggregate-put-3 : tie.Need-slice-aggregate-put-3
-slice-aggregate-put-3 c = search needs
-
-put-requires-3 : tie.Need-put-requires-3
-put-requires-3 c κs = search needs
-
-put-time-requires : tie.Need-put-time-requires
-put-time-requires c κs = search needs
-
-slice-aggregate-put-4 : tie.Need-slice-aggregate-put-4
-slice-aggregate-put-4 c = search needs
-
-put-requires-4 : tie.Need-put-requires-4
-put-requires-4 c κs = search needs
-
-put-time-requires-2 : tie.Need-put-time-requires-2
-put-time-requires-2 c κs = search needs
-
-slice-aggregate-put-5 : tie.Need-slice-aggregate-put-5
-slice-aggregate-put-5 c = search needs
-
-put-requires-5 : tie.Need-put-requires-5
-put-requires-5 c κs = search needs
-
-put-content-requires : tie.Need-put-content-requires
-put-content-requires c κs = search needs
-
-slice-aggregate-put-6 : tie.Need-slice-aggregate-put-6
-slice-aggregate-put-6 c = search needs
-
-put-requires-6 : tie.Need-put-requires-6
-put-requires-6 c κs = search needs
-
 same-length : tie.Need-same-length
 same-length c =
     let c11 = c .before .before in
@@ -99,24 +48,7 @@ returns c =
 
 pub put-paragraph-spec : {M : Type 1} → statement M
 put-paragraph-spec =
-    tie.close
-    (tie.spec
-    slice-aggregate-put
-    put-requires
-    put-decimal-requires
-    slice-aggregate-put-2
-    put-requires-2
-    put-alignment-requires
-    slice-aggregate-put-3
-    put-requires-3
-    put-time-requires
-    slice-aggregate-put-4
-    put-requires-4
-    put-time-requires-2
-    slice-aggregate-put-5
-    put-requires-5
-    put-content-requires
-    slice-aggregate-put-6
-    put-requires-6
-    same-length
-    returns)
+    tie.close (tie.spec (λ c. search needs) (λ c κs. search needs) (λ c κs. search needs) (λ c. search needs) (λ c κs. search needs)
+    (λ c κs. search needs) (λ c. search needs) (λ c κs. search needs) (λ c κs. search needs) (λ c. search needs) (λ c κs. search needs)
+    (λ c κs. search needs) (λ c. search needs) (λ c κs. search needs) (λ c κs. search needs) (λ c. search needs) (λ c κs. search needs)
+    same-length returns)

@@ -7,30 +7,6 @@ use Rattle.output.proofs.Laws.{_⨟_}
 use Rattle.document.proofs.put_time.Statement.{statement}
 use Rattle.document.proofs.put_time.Tie as tie
 
-put-digits2-requires : tie.Need-put-digits2-requires
-put-digits2-requires c κs = search needs
-
-put-byte-requires : tie.Need-put-byte-requires
-put-byte-requires c κs = search needs
-
-put-digits2-requires-2 : tie.Need-put-digits2-requires-2
-put-digits2-requires-2 c κs = search needs
-
-put-byte-requires-2 : tie.Need-put-byte-requires-2
-put-byte-requires-2 c κs = search needs
-
-put-digits2-requires-3 : tie.Need-put-digits2-requires-3
-put-digits2-requires-3 c κs = search needs
-
-put-byte-requires-3 : tie.Need-put-byte-requires-3
-put-byte-requires-3 c κs = search needs
-
-put-digits2-requires-4 : tie.Need-put-digits2-requires-4
-put-digits2-requires-4 c κs = search needs
-
-same-length : tie.Need-same-length
-same-length c = search needs
-
 returns : tie.Need-returns
 unfolding writeTime joined bytes
 returns c =
@@ -45,14 +21,5 @@ returns c =
 
 pub put-time-spec : {M : Type 1} → statement M
 put-time-spec =
-    tie.close
-    (tie.spec
-    put-digits2-requires
-    put-byte-requires
-    put-digits2-requires-2
-    put-byte-requires-2
-    put-digits2-requires-3
-    put-byte-requires-3
-    put-digits2-requires-4
-    same-length
-    returns)
+    tie.close (tie.spec (λ c κs. search needs) (λ c κs. search needs) (λ c κs. search needs) (λ c κs. search needs) (λ c κs. search needs)
+    (λ c κs. search needs) (λ c κs. search needs) (λ c. search needs) returns)

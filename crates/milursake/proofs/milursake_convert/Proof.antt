@@ -8,18 +8,6 @@ use Rattle.convert.proofs.Converting.{fewest-told}
 use Rattle.milursake.proofs.milursake_convert.Statement.{statement}
 use Rattle.milursake.proofs.milursake_convert.Tie as tie
 
-convert-requires : tie.Need-convert-requires
-convert-requires c κs = search needs
-
-put-answer-requires : tie.Need-put-answer-requires
-put-answer-requires c κs = search needs
-
-same-length : tie.Need-same-length
-same-length c = search needs
-
-same-length-2 : tie.Need-same-length-2
-same-length-2 c = search needs
-
 returns : tie.Need-returns
 returns c =
     let d = c .before .before .before .before .before .before in
@@ -28,5 +16,4 @@ returns c =
     (ap (λ a. a .number) e, (d .convert .ensures .1 .0, (c .before .before .put-answer .ensures ∙ ap (λ a. stored numbers 0 (numbersOf a)) e, fewest-told e (d .convert .ensures .1 .1))))
 
 pub milursake-convert-spec : {M : Type 1} → statement M
-milursake-convert-spec =
-    tie.close (tie.spec convert-requires put-answer-requires same-length same-length-2 returns)
+milursake-convert-spec = tie.close (tie.spec (λ c κs. search needs) (λ c κs. search needs) (λ c. search needs) (λ c. search needs) returns)

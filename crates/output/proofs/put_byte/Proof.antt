@@ -10,12 +10,6 @@ use borrow.Author.Needs.{needs}
 use Rattle.output.proofs.put_byte.Statement.{statement}
 use Rattle.output.proofs.put_byte.Tie as tie
 
-slice-write-out : tie.Need-slice-write-out
-slice-write-out c = search needs
-
-after-requires : tie.Need-after-requires
-after-requires c κs = search needs
-
 same-length : tie.Need-same-length
 same-length c = ⊎-elim (λ w. ap length (w .1) ∙ simp length-set) (λ w. ap length (w .1)) (c .before .if1 .came)
 
@@ -29,4 +23,4 @@ returns c =
     }
 
 pub put-byte-spec : {M : Type 1} → statement M
-put-byte-spec = tie.close (tie.spec slice-write-out after-requires same-length returns)
+put-byte-spec = tie.close (tie.spec (λ c. search needs) (λ c κs. search needs) same-length returns)

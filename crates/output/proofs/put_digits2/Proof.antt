@@ -6,21 +6,6 @@ use borrow.Author.Needs.{needs}
 use Rattle.output.proofs.put_digits2.Statement.{statement}
 use Rattle.output.proofs.put_digits2.Tie as tie
 
-digit-requires : tie.Need-digit-requires
-digit-requires c κs = search needs
-
-put-byte-requires : tie.Need-put-byte-requires
-put-byte-requires c κs = search needs
-
-digit-requires-2 : tie.Need-digit-requires-2
-digit-requires-2 c κs = search needs
-
-put-byte-requires-2 : tie.Need-put-byte-requires-2
-put-byte-requires-2 c κs = search needs
-
-same-length : tie.Need-same-length
-same-length c = search needs
-
 returns : tie.Need-returns
 unfolding digits
 returns c =
@@ -30,11 +15,5 @@ returns c =
 
 pub put-digits2-spec : {M : Type 1} → statement M
 put-digits2-spec =
-    tie.close
-    (tie.spec
-    digit-requires
-    put-byte-requires
-    digit-requires-2
-    put-byte-requires-2
-    same-length
+    tie.close (tie.spec (λ c κs. search needs) (λ c κs. search needs) (λ c κs. search needs) (λ c κs. search needs) (λ c. search needs)
     returns)

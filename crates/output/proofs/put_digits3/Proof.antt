@@ -6,27 +6,6 @@ use borrow.Author.Needs.{needs}
 use Rattle.output.proofs.put_digits3.Statement.{statement}
 use Rattle.output.proofs.put_digits3.Tie as tie
 
-digit-requires : tie.Need-digit-requires
-digit-requires c κs = search needs
-
-put-byte-requires : tie.Need-put-byte-requires
-put-byte-requires c κs = search needs
-
-digit-requires-2 : tie.Need-digit-requires-2
-digit-requires-2 c κs = search needs
-
-put-byte-requires-2 : tie.Need-put-byte-requires-2
-put-byte-requires-2 c κs = search needs
-
-digit-requires-3 : tie.Need-digit-requires-3
-digit-requires-3 c κs = search needs
-
-put-byte-requires-3 : tie.Need-put-byte-requires-3
-put-byte-requires-3 c κs = search needs
-
-same-length : tie.Need-same-length
-same-length c = search needs
-
 returns : tie.Need-returns
 unfolding digits
 returns c =
@@ -37,13 +16,5 @@ returns c =
 
 pub put-digits3-spec : {M : Type 1} → statement M
 put-digits3-spec =
-    tie.close
-    (tie.spec
-    digit-requires
-    put-byte-requires
-    digit-requires-2
-    put-byte-requires-2
-    digit-requires-3
-    put-byte-requires-3
-    same-length
-    returns)
+    tie.close (tie.spec (λ c κs. search needs) (λ c κs. search needs) (λ c κs. search needs) (λ c κs. search needs) (λ c κs. search needs)
+    (λ c κs. search needs) (λ c. search needs) returns)

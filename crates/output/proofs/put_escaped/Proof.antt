@@ -41,31 +41,10 @@ common-escaped p k = rw (ne-eqb p 38 (k .and), ne-eqb p 60 (k .less), ne-eqb p 6
 cast-put-byte : tie.Need-cast-put-byte
 cast-put-byte c = record { fits = omega (arith, common (c .before .before .before .args .c) (c .before .if1 .taken) .low) }
 
-put-byte-requires : tie.Need-put-byte-requires
-put-byte-requires c κs = search needs
-
-same-length : tie.Need-same-length
-same-length c = search needs
-
 returns : tie.Need-returns
 returns c =
     let t = c .before .before .before .before in
     wrote-as (common-escaped (t .before .before .args .c) (common _ (t .if1 .taken))) (c .before .before .put-byte .ensures)
-
-put-entity-requires : tie.Need-put-entity-requires
-put-entity-requires c κs = search needs
-
-put-utf8-requires : tie.Need-put-utf8-requires
-put-utf8-requires c κs = search needs
-
-same-length-2 : tie.Need-same-length-2
-same-length-2 c = search needs
-
-returns-2 : tie.Need-returns-2
-returns-2 c = search needs
-
-same-length-3 : tie.Need-same-length-3
-same-length-3 c = search needs
 
 returns-3 : tie.Need-returns-3
 unfolding escaped
@@ -75,15 +54,5 @@ returns-3 c =
 
 pub put-escaped-spec : {M : Type 1} → statement M
 put-escaped-spec =
-    tie.close
-    (tie.spec
-    cast-put-byte
-    put-byte-requires
-    same-length
-    returns
-    put-entity-requires
-    put-utf8-requires
-    same-length-2
-    returns-2
-    same-length-3
-    returns-3)
+    tie.close (tie.spec cast-put-byte (λ c κs. search needs) (λ c. search needs) returns (λ c κs. search needs) (λ c κs. search needs)
+    (λ c. search needs) (λ c. search needs) (λ c. search needs) returns-3)

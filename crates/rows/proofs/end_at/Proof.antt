@@ -6,12 +6,6 @@ use Rattle.rows.proofs.RowEnds.{end-found, end-other, end-over}
 use Rattle.rows.proofs.end_at.Statement.{statement}
 use Rattle.rows.proofs.end_at.Tie as tie
 
-reading-at-requires : tie.Need-reading-at-requires
-reading-at-requires c κs = search needs
-
-is-row-end-requires : tie.Need-is-row-end-requires
-is-row-end-requires c κs = search needs
-
 returns : tie.Need-returns
 returns c = end-found _ _ (c .before .before .reading-at .ensures) (sym (c .before .is-row-end .ensures) ∙ c .if2 .taken)
 
@@ -22,5 +16,4 @@ returns-3 : tie.Need-returns-3
 returns-3 c = end-over _ _ (c .if1 .left)
 
 pub end-at-spec : {M : Type 1} → statement M
-end-at-spec =
-    tie.close (tie.spec reading-at-requires is-row-end-requires returns returns-2 returns-3)
+end-at-spec = tie.close (tie.spec (λ c κs. search needs) (λ c κs. search needs) returns returns-2 returns-3)

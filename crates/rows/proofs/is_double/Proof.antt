@@ -65,17 +65,5 @@ returns-3 c = height-over (c .before .loop .inv) (c .loop-test .left)
 
 pub is-double-spec : {M : Type 1} → statement M
 is-double-spec =
-    tie.close
-    (tie.spec
-    Inv-loop
-    μ-loop
-    loop-holds
-    token-at-requires
-    is-row-end-requires
-    returns
-    is-double-height-requires
-    returns-2
-    plain-end-requires
-    loop-less
-    loop-again
-    returns-3)
+    tie.close (tie.spec Inv-loop μ-loop loop-holds token-at-requires is-row-end-requires returns is-double-height-requires returns-2
+    plain-end-requires loop-less loop-again returns-3)

@@ -5,18 +5,6 @@ use Rattle.meaning.specs.Codes.{isDoubleHeight}
 use Rattle.rows.proofs.is_double_height.Statement.{statement}
 use Rattle.rows.proofs.is_double_height.Tie as tie
 
-enum-told : tie.Need-enum-told
-enum-told c = search needs
-
-enum-known-t : tie.Need-enum-known-t
-enum-known-t c = search needs
-
-enum-told-2 : tie.Need-enum-told-2
-enum-told-2 c = search needs
-
-enum-told-3 : tie.Need-enum-told-3
-enum-told-3 c = search needs
-
 returns : tie.Need-returns
 unfolding isDoubleHeight
 returns c = search needs
@@ -35,5 +23,5 @@ returns-4 c = search needs
 
 pub is-double-height-spec : {M : Type 1} → statement M
 is-double-height-spec =
-    tie.close
-    (tie.spec enum-told enum-known-t enum-told-2 enum-told-3 returns returns-2 returns-3 returns-4)
+    tie.close (tie.spec (λ c. search needs) (λ c. search needs) (λ c. search needs) (λ c. search needs) returns returns-2 returns-3
+    returns-4)

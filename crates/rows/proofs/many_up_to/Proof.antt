@@ -10,24 +10,12 @@ use Rattle.rows.proofs.many_up_to.Tie as tie
 returns : tie.Need-returns
 returns c = sym (many-over _ _ _ (c .if1 .taken))
 
-sub-if2 : tie.Need-sub-if2
-sub-if2 c = search needs
-
-cast-if2 : tie.Need-cast-if2
-cast-if2 c = search needs
-
 returns-2 : tie.Need-returns-2
 returns-2 c = omega (arith, many-min (c .before .before .args .limit) (c .before .before .args .n) (c .before .before .args .more) (omega arith))
-
-cast-result : tie.Need-cast-result
-cast-result c = search needs
-
-add-result : tie.Need-add-result
-add-result c = search needs
 
 returns-3 : tie.Need-returns-3
 returns-3 c = omega (arith, many-min (c .before .before .args .limit) (c .before .before .args .n) (c .before .before .args .more) (omega arith))
 
 pub many-up-to-spec : {M : Type 1} → statement M
 many-up-to-spec =
-    tie.close (tie.spec returns sub-if2 cast-if2 returns-2 cast-result add-result returns-3)
+    tie.close (tie.spec returns (λ c. search needs) (λ c. search needs) returns-2 (λ c. search needs) (λ c. search needs) returns-3)

@@ -6,9 +6,6 @@ use Rattle.rows.specs.Scanning.{moreUpTo}
 use Rattle.rows.proofs.more_up_to.Statement.{statement}
 use Rattle.rows.proofs.more_up_to.Tie as tie
 
-add-result : tie.Need-add-result
-add-result c = search needs
-
 returns : tie.Need-returns
 unfolding moreUpTo
 returns c = rw (lt-ltb _ _ (c .if1 .taken))
@@ -18,4 +15,4 @@ unfolding moreUpTo
 returns-2 c = rw (le-ltb _ _ (c .if1 .left))
 
 pub more-up-to-spec : {M : Type 1} → statement M
-more-up-to-spec = tie.close (tie.spec add-result returns returns-2)
+more-up-to-spec = tie.close (tie.spec (λ c. search needs) returns returns-2)

@@ -6,15 +6,9 @@ use Rattle.rows.specs.Scanned.{endAt, nextRowAt}
 use Rattle.rows.proofs.row_after.Statement.{statement}
 use Rattle.rows.proofs.row_after.Tie as tie
 
-end-at-requires : tie.Need-end-at-requires
-end-at-requires c κs = search needs
-
-row-start-requires : tie.Need-row-start-requires
-row-start-requires c κs = search needs
-
 returns : tie.Need-returns
 unfolding endAt nextRowAt
 returns c = c .row-start .ensures ∙ rw (c .before .end-at .ensures)
 
 pub row-after-spec : {M : Type 1} → statement M
-row-after-spec = tie.close (tie.spec end-at-requires row-start-requires returns)
+row-after-spec = tie.close (tie.spec (λ c κs. search needs) (λ c κs. search needs) returns)

@@ -9,20 +9,14 @@ use Rattle.rows.specs.Scanning.{ruleOf}
 use Rattle.rows.proofs.rule_of.Statement.{statement}
 use Rattle.rows.proofs.rule_of.Tie as tie
 
-lines-requires : tie.Need-lines-requires
-lines-requires c κs = search needs
-
 add-last : tie.Need-add-last
 add-last c =
     let n = c .before .before .before .before .args .facts .rows in
     omega (arith, ap (λ (l : Lines). l .0) (c .before .lines .ensures), lines-le (c .before .before .before .before .args .double) (record { 0 = n }))
-
-first-broken-requires : tie.Need-first-broken-requires
-first-broken-requires c κs = search needs
 
 returns : tie.Need-returns
 unfolding ruleOf
 returns c = rw (c .before .before .before .lines .ensures) at (c .first-broken .ensures)
 
 pub rule-of-spec : {M : Type 1} → statement M
-rule-of-spec = tie.close (tie.spec lines-requires add-last first-broken-requires returns)
+rule-of-spec = tie.close (tie.spec (λ c κs. search needs) add-last (λ c κs. search needs) returns)

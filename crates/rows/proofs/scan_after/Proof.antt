@@ -62,17 +62,5 @@ returns c = left-last (c .before .loop .inv) (c .loop-test .left)
 
 pub scan-after-spec : {M : Type 1} → statement M
 scan-after-spec =
-    tie.close
-    (tie.spec
-    Inv-loop
-    μ-loop
-    none-requires
-    with-row-requires
-    loop-holds
-    end-at-requires
-    row-start-requires
-    scan-row-requires
-    with-row-requires-2
-    loop-less
-    loop-again
-    returns)
+    tie.close (tie.spec Inv-loop μ-loop none-requires with-row-requires loop-holds end-at-requires row-start-requires scan-row-requires
+    with-row-requires-2 loop-less loop-again returns)

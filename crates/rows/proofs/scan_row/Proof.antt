@@ -65,19 +65,5 @@ returns-2 c = left-over (c .before .loop .inv) (c .loop-test .left)
 
 pub scan-row-spec : {M : Type 1} → statement M
 scan-row-spec =
-    tie.close
-    (tie.spec
-    Inv-loop
-    μ-loop
-    none-requires
-    loop-holds
-    token-at-requires
-    is-row-end-requires
-    returns
-    plain-end-requires
-    with-token-requires
-    sub-with-characters
-    with-characters-requires
-    loop-less
-    loop-again
-    returns-2)
+    tie.close (tie.spec Inv-loop μ-loop none-requires loop-holds token-at-requires is-row-end-requires returns plain-end-requires
+    with-token-requires sub-with-characters with-characters-requires loop-less loop-again returns-2)

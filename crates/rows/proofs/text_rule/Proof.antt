@@ -7,18 +7,8 @@ use Rattle.rows.proofs.Facts.{rule-scanned}
 use Rattle.rows.proofs.text_rule.Statement.{statement}
 use Rattle.rows.proofs.text_rule.Tie as tie
 
-scan-row-requires : tie.Need-scan-row-requires
-scan-row-requires c κs = search needs
-
-scan-after-requires : tie.Need-scan-after-requires
-scan-after-requires c κs = search needs
-
-rule-of-requires : tie.Need-rule-of-requires
-rule-of-requires c κs = search needs
-
 returns : tie.Need-returns
 returns c = c .rule-of .ensures ∙ rule-scanned _ _ _ (omega arith) (c .before .before .before .before .before .scan-row .ensures) (c .before .before .before .scan-after .ensures)
 
 pub text-rule-spec : {M : Type 1} → statement M
-text-rule-spec =
-    tie.close (tie.spec scan-row-requires scan-after-requires rule-of-requires returns)
+text-rule-spec = tie.close (tie.spec (λ c κs. search needs) (λ c κs. search needs) (λ c κs. search needs) returns)

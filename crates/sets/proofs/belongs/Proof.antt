@@ -5,12 +5,9 @@ use Rattle.meaning.specs.Sets.{belongs}
 use Rattle.sets.proofs.belongs.Statement.{statement}
 use Rattle.sets.proofs.belongs.Tie as tie
 
-cast-goes-on : tie.Need-cast-goes-on
-cast-goes-on c = search needs
-
 returns : tie.Need-returns
 unfolding belongs
 returns c = search needs
 
 pub belongs-spec : {M : Type 1} → statement M
-belongs-spec = tie.close (tie.spec cast-goes-on returns)
+belongs-spec = tie.close (tie.spec (λ c. search needs) returns)

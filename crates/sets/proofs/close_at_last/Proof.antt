@@ -14,5 +14,4 @@ unfolding closeStep
 returns-2 c = rw (ne-eqb _ 255 (c .if1 .left), closeStep)
 
 pub close-at-last-spec : {M : Type 1} → statement M
-close-at-last-spec =
-    tie.close (tie.spec returns returns-2)
+close-at-last-spec = tie.close (tie.spec returns returns-2)

@@ -11,5 +11,4 @@ unfolding noSets noTime noCounts
 returns c = refl
 
 pub none-spec : {M : Type 1} → statement M
-none-spec =
-    tie.close (tie.spec returns)
+none-spec = tie.close (tie.spec returns)

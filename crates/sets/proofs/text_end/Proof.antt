@@ -15,5 +15,4 @@ unfolding textEnd
 returns-2 c = ap (λ x. cond x (c .before .args .s .size) 0) (sym (c .if1 .left))
 
 pub text-end-spec : {M : Type 1} → statement M
-text-end-spec =
-    tie.close (tie.spec returns returns-2)
+text-end-spec = tie.close (tie.spec returns returns-2)

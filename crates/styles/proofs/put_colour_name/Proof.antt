@@ -7,21 +7,6 @@ use borrow.Author.Needs.{needs}
 use Rattle.styles.proofs.put_colour_name.Statement.{statement}
 use Rattle.styles.proofs.put_colour_name.Tie as tie
 
-put-byte-requires : tie.Need-put-byte-requires
-put-byte-requires c κs = search needs
-
-put-channel-requires : tie.Need-put-channel-requires
-put-channel-requires c κs = search needs
-
-put-channel-requires-2 : tie.Need-put-channel-requires-2
-put-channel-requires-2 c κs = search needs
-
-put-channel-requires-3 : tie.Need-put-channel-requires-3
-put-channel-requires-3 c κs = search needs
-
-same-length : tie.Need-same-length
-same-length c = search needs
-
 returns : tie.Need-returns
 unfolding colourName joined bytes
 returns c =
@@ -33,11 +18,5 @@ returns c =
 
 pub put-colour-name-spec : {M : Type 1} → statement M
 put-colour-name-spec =
-    tie.close
-    (tie.spec
-    put-byte-requires
-    put-channel-requires
-    put-channel-requires-2
-    put-channel-requires-3
-    same-length
+    tie.close (tie.spec (λ c κs. search needs) (λ c κs. search needs) (λ c κs. search needs) (λ c κs. search needs) (λ c. search needs)
     returns)

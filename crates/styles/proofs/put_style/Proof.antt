@@ -8,57 +8,6 @@ use borrow.Author.Needs.{needs}
 use Rattle.styles.proofs.put_style.Statement.{statement}
 use Rattle.styles.proofs.put_style.Tie as tie
 
-unpack-requires : tie.Need-unpack-requires
-unpack-requires c κs = search needs
-
-slice-aggregate-put : tie.Need-slice-aggregate-put
-slice-aggregate-put c = search needs
-
-put-requires : tie.Need-put-requires
-put-requires c κs = search needs
-
-put-style-name-requires : tie.Need-put-style-name-requires
-put-style-name-requires c κs = search needs
-
-slice-aggregate-put-2 : tie.Need-slice-aggregate-put-2
-slice-aggregate-put-2 c = search needs
-
-put-requires-2 : tie.Need-put-requires-2
-put-requires-2 c κs = search needs
-
-put-colour-name-requires : tie.Need-put-colour-name-requires
-put-colour-name-requires c κs = search needs
-
-slice-aggregate-put-3 : tie.Need-slice-aggregate-put-3
-slice-aggregate-put-3 c = search needs
-
-put-requires-3 : tie.Need-put-requires-3
-put-requires-3 c κs = search needs
-
-put-colour-name-requires-2 : tie.Need-put-colour-name-requires-2
-put-colour-name-requires-2 c κs = search needs
-
-slice-aggregate-put-4 : tie.Need-slice-aggregate-put-4
-slice-aggregate-put-4 c = search needs
-
-put-requires-4 : tie.Need-put-requires-4
-put-requires-4 c κs = search needs
-
-slice-aggregate-put-either : tie.Need-slice-aggregate-put-either
-slice-aggregate-put-either c = search needs
-
-slice-aggregate-put-either-2 : tie.Need-slice-aggregate-put-either-2
-slice-aggregate-put-either-2 c = search needs
-
-put-either-requires : tie.Need-put-either-requires
-put-either-requires c κs = search needs
-
-slice-aggregate-put-5 : tie.Need-slice-aggregate-put-5
-slice-aggregate-put-5 c = search needs
-
-put-requires-5 : tie.Need-put-requires-5
-put-requires-5 c κs = search needs
-
 returns : tie.Need-returns
 unfolding writeStyle sizeName joined bytes
 returns c =
@@ -87,24 +36,7 @@ same-length c = wrote-length (returns c)
 
 pub put-style-spec : {M : Type 1} → statement M
 put-style-spec =
-    tie.close
-    (tie.spec
-    unpack-requires
-    slice-aggregate-put
-    put-requires
-    put-style-name-requires
-    slice-aggregate-put-2
-    put-requires-2
-    put-colour-name-requires
-    slice-aggregate-put-3
-    put-requires-3
-    put-colour-name-requires-2
-    slice-aggregate-put-4
-    put-requires-4
-    slice-aggregate-put-either
-    slice-aggregate-put-either-2
-    put-either-requires
-    slice-aggregate-put-5
-    put-requires-5
-    same-length
-    returns)
+    tie.close (tie.spec (λ c κs. search needs) (λ c. search needs) (λ c κs. search needs) (λ c κs. search needs) (λ c. search needs)
+    (λ c κs. search needs) (λ c κs. search needs) (λ c. search needs) (λ c κs. search needs) (λ c κs. search needs) (λ c. search needs)
+    (λ c κs. search needs) (λ c. search needs) (λ c. search needs) (λ c κs. search needs) (λ c. search needs) (λ c κs. search needs)
+    same-length returns)

@@ -24,29 +24,11 @@ loop-holds : tie.Need-loop-holds Inv-loop μ-loop
 unfolding linesFrom looksMarked
 loop-holds c = (omega arith, remains-all _ _ _ (omega arith) (omega arith))
 
-element-copy-out-put-style-if : tie.Need-element-copy-out-put-style-if Inv-loop μ-loop
-element-copy-out-put-style-if c = search needs
-
-cast-put-style-if : tie.Need-cast-put-style-if Inv-loop μ-loop
-cast-put-style-if c = search needs
-
-put-style-if-requires : tie.Need-put-style-if-requires Inv-loop μ-loop
-put-style-if-requires c κs = search needs
-
-add-look : tie.Need-add-look Inv-loop μ-loop
-add-look c = search needs
-
-loop-less : tie.Need-loop-less Inv-loop μ-loop
-loop-less c = search needs
-
 loop-again : tie.Need-loop-again Inv-loop μ-loop
 loop-again c =
     let l = c .before .before .before .before .before .before .loop in
     let h : l .look < lookCount = omega arith in
     (omega arith, remains-less (rw (lines-next _ _ h) at (l .inv .1)) (c .before .before .put-style-if .ensures))
-
-same-length : tie.Need-same-length Inv-loop μ-loop
-same-length c = search needs
 
 returns : tie.Need-returns Inv-loop μ-loop
 unfolding linesFrom upFrom keep joinMap
@@ -57,16 +39,5 @@ returns c =
 
 pub put-styles-spec : {M : Type 1} → statement M
 put-styles-spec =
-    tie.close
-    (tie.spec
-    Inv-loop
-    μ-loop
-    loop-holds
-    element-copy-out-put-style-if
-    cast-put-style-if
-    put-style-if-requires
-    add-look
-    loop-less
-    loop-again
-    same-length
-    returns)
+    tie.close (tie.spec Inv-loop μ-loop loop-holds (λ c. search needs) (λ c. search needs) (λ c κs. search needs) (λ c. search needs)
+    (λ c. search needs) loop-again (λ c. search needs) returns)

@@ -65,17 +65,5 @@ returns c = rows-none _ _ (c .before .loop .inv) (c .loop-test .left) (c .before
 
 pub lay-rows-spec : {M : Type 1} → statement M
 lay-rows-spec =
-    tie.close
-    (tie.spec
-    Inv-loop
-    μ-loop
-    lay-row-requires
-    loop-holds
-    row-after-requires
-    put-break-requires
-    lay-row-requires-2
-    row-counted-requires
-    loop-less
-    loop-again
-    same-length
-    returns)
+    tie.close (tie.spec Inv-loop μ-loop lay-row-requires loop-holds row-after-requires put-break-requires lay-row-requires-2
+    row-counted-requires loop-less loop-again same-length returns)

@@ -24,15 +24,6 @@ loop-holds c =
     let z : c .before .args .n - 0 ≡ c .before .args .n = omega arith in
     (search needs, rw z (remains-all _ _ _ (omega arith) (omega arith)))
 
-put-break-requires : tie.Need-put-break-requires Inv-loop μ-loop
-put-break-requires c κs = search needs
-
-add-k : tie.Need-add-k Inv-loop μ-loop
-add-k c = search needs
-
-loop-less : tie.Need-loop-less Inv-loop μ-loop
-loop-less c = search needs
-
 loop-again : tie.Need-loop-again Inv-loop μ-loop
 loop-again c =
     let l = c .before .before .before .before .before .loop in
@@ -46,14 +37,5 @@ returns c = let l = c .before .loop in remains-none (rw (breaks-end _ (l .k) (c 
 
 pub put-breaks-spec : {M : Type 1} → statement M
 put-breaks-spec =
-    tie.close
-    (tie.spec
-    Inv-loop
-    μ-loop
-    loop-holds
-    put-break-requires
-    add-k
-    loop-less
-    loop-again
-    same-length
+    tie.close (tie.spec Inv-loop μ-loop loop-holds (λ c κs. search needs) (λ c. search needs) (λ c. search needs) loop-again same-length
     returns)

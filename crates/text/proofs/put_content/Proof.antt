@@ -6,27 +6,6 @@ use borrow.Author.Needs.{needs}
 use Rattle.text.proofs.put_content.Statement.{statement}
 use Rattle.text.proofs.put_content.Tie as tie
 
-is-double-requires : tie.Need-is-double-requires
-is-double-requires c κs = search needs
-
-new-requires : tie.Need-new-requires
-new-requires c κs = search needs
-
-lay-rows-requires : tie.Need-lay-rows-requires
-lay-rows-requires c κs = search needs
-
-lines-requires : tie.Need-lines-requires
-lines-requires c κs = search needs
-
-filler-lines-requires : tie.Need-filler-lines-requires
-filler-lines-requires c κs = search needs
-
-put-breaks-requires : tie.Need-put-breaks-requires
-put-breaks-requires c κs = search needs
-
-same-length : tie.Need-same-length
-same-length c = search needs
-
 returns : tie.Need-returns
 returns c =
     let b = c .before .before in
@@ -39,13 +18,5 @@ returns c =
 
 pub put-content-spec : {M : Type 1} → statement M
 put-content-spec =
-    tie.close
-    (tie.spec
-    is-double-requires
-    new-requires
-    lay-rows-requires
-    lines-requires
-    filler-lines-requires
-    put-breaks-requires
-    same-length
-    returns)
+    tie.close (tie.spec (λ c κs. search needs) (λ c κs. search needs) (λ c κs. search needs) (λ c κs. search needs) (λ c κs. search needs)
+    (λ c κs. search needs) (λ c. search needs) returns)

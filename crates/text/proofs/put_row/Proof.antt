@@ -22,9 +22,6 @@ loop-holds c = spans-all _ _ _ _ _ (c .shown-range .ensures) (omega arith) (sear
 span-at-requires : tie.Need-span-at-requires Inv-loop μ-loop
 span-at-requires c κs = tt
 
-mul-put-span : tie.Need-mul-put-span Inv-loop μ-loop
-mul-put-span c = search needs
-
 sub-put-span : tie.Need-sub-put-span Inv-loop μ-loop
 sub-put-span c =
     let l = c .before .before .before .loop .inv in
@@ -73,19 +70,5 @@ returns c = spans-none _ _ _ (c .before .loop .inv) (c .loop-test .left)
 
 pub put-row-spec : {M : Type 1} → statement M
 put-row-spec =
-    tie.close
-    (tie.spec
-    Inv-loop
-    μ-loop
-    shown-range-requires
-    loop-holds
-    span-at-requires
-    mul-put-span
-    sub-put-span
-    part-put-span-start
-    part-put-span-end
-    put-span-requires
-    loop-less
-    loop-again
-    same-length
-    returns)
+    tie.close (tie.spec Inv-loop μ-loop shown-range-requires loop-holds span-at-requires (λ c. search needs) sub-put-span
+    part-put-span-start part-put-span-end put-span-requires loop-less loop-again same-length returns)

@@ -9,39 +9,6 @@ use Rattle.text.specs.Laid.{markedWith}
 use Rattle.text.proofs.put_span.Statement.{statement}
 use Rattle.text.proofs.put_span.Tie as tie
 
-slice-aggregate-put : tie.Need-slice-aggregate-put
-slice-aggregate-put c = search needs
-
-put-requires : tie.Need-put-requires
-put-requires c κs = search needs
-
-put-style-name-requires : tie.Need-put-style-name-requires
-put-style-name-requires c κs = search needs
-
-slice-aggregate-put-2 : tie.Need-slice-aggregate-put-2
-slice-aggregate-put-2 c = search needs
-
-put-requires-2 : tie.Need-put-requires-2
-put-requires-2 c κs = search needs
-
-put-characters-requires : tie.Need-put-characters-requires
-put-characters-requires c κs = search needs
-
-slice-aggregate-put-3 : tie.Need-slice-aggregate-put-3
-slice-aggregate-put-3 c = search needs
-
-put-requires-3 : tie.Need-put-requires-3
-put-requires-3 c κs = search needs
-
-after-requires : tie.Need-after-requires
-after-requires c κs = search needs
-
-marked-requires : tie.Need-marked-requires
-marked-requires c κs = search needs
-
-same-length : tie.Need-same-length
-same-length c = search needs
-
 returns : tie.Need-returns
 unfolding joinMap writePiece writeSpan joined bytes looksOf markedWith
 returns c =
@@ -58,17 +25,6 @@ returns c =
 
 pub put-span-spec : {M : Type 1} → statement M
 put-span-spec =
-    tie.close
-    (tie.spec
-    slice-aggregate-put
-    put-requires
-    put-style-name-requires
-    slice-aggregate-put-2
-    put-requires-2
-    put-characters-requires
-    slice-aggregate-put-3
-    put-requires-3
-    after-requires
-    marked-requires
-    same-length
+    tie.close (tie.spec (λ c. search needs) (λ c κs. search needs) (λ c κs. search needs) (λ c. search needs) (λ c κs. search needs)
+    (λ c κs. search needs) (λ c. search needs) (λ c κs. search needs) (λ c κs. search needs) (λ c κs. search needs) (λ c. search needs)
     returns)

@@ -8,15 +8,9 @@ use Rattle.block.proofs.Fields.{drop-within}
 use Rattle.block.proofs.parts.bytes_at.Statement.{statement}
 use Rattle.block.proofs.parts.bytes_at.Tie as tie
 
-start-of-requires : tie.Need-start-of-requires
-start-of-requires c κs = search needs
-
-field-requires : tie.Need-field-requires
-field-requires c κs = search needs
-
 returns : tie.Need-returns
 unfolding field blockAt
 returns c = c .field .ensures ∙ rw (drop-within _ _ _ (c .before .start-of .ensures))
 
 pub bytes-at-spec : {M : Type 1} → statement M
-bytes-at-spec = tie.close (tie.spec start-of-requires field-requires returns)
+bytes-at-spec = tie.close (tie.spec (λ c κs. search needs) (λ c κs. search needs) returns)

@@ -8,9 +8,6 @@ use Rattle.meaning.specs.Gsi.{field}
 use Rattle.block.proofs.parts.field.Statement.{statement}
 use Rattle.block.proofs.parts.field.Tie as tie
 
-rest-requires : tie.Need-rest-requires
-rest-requires c κs = search needs
-
 returns : tie.Need-returns
 unfolding field
 returns c = rw (sym (c .before .rest .ensures)) (sym (take-all _ _ (c .if1 .taken)))
@@ -23,4 +20,4 @@ unfolding field
 returns-2 c = rw (c .before .before .rest .ensures)
 
 pub field-spec : {M : Type 1} → statement M
-field-spec = tie.close (tie.spec rest-requires returns slice-aggregate-result returns-2)
+field-spec = tie.close (tie.spec (λ c κs. search needs) returns slice-aggregate-result returns-2)

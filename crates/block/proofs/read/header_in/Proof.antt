@@ -10,23 +10,8 @@ use Rattle.block.proofs.Headers.{header-filled}
 use Rattle.block.proofs.read.header_in.Statement.{statement}
 use Rattle.block.proofs.read.header_in.Tie as tie
 
-header-of-requires : tie.Need-header-of-requires
-header-of-requires c κs = search needs
-
 returns : tie.Need-returns
 returns c = c .header-of .ensures
-
-slice-aggregate-put : tie.Need-slice-aggregate-put
-slice-aggregate-put c = search needs
-
-put-requires : tie.Need-put-requires
-put-requires c κs = search needs
-
-slice-aggregate-header-of : tie.Need-slice-aggregate-header-of
-slice-aggregate-header-of c = search needs
-
-header-of-requires-2 : tie.Need-header-of-requires-2
-header-of-requires-2 c κs = search needs
 
 returns-2 : tie.Need-returns-2
 returns-2 c =
@@ -38,12 +23,5 @@ returns-2 c =
 
 pub header-in-spec : {M : Type 1} → statement M
 header-in-spec =
-    tie.close
-    (tie.spec
-    header-of-requires
-    returns
-    slice-aggregate-put
-    put-requires
-    slice-aggregate-header-of
-    header-of-requires-2
+    tie.close (tie.spec (λ c κs. search needs) returns (λ c. search needs) (λ c κs. search needs) (λ c. search needs) (λ c κs. search needs)
     returns-2)

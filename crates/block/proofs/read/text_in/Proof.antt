@@ -8,18 +8,9 @@ use Rattle.block.proofs.Ends.{take-before-end}
 use Rattle.block.proofs.read.text_in.Statement.{statement}
 use Rattle.block.proofs.read.text_in.Tie as tie
 
-rest-requires : tie.Need-rest-requires
-rest-requires c κs = search needs
-
-length-before-end-requires : tie.Need-length-before-end-requires
-length-before-end-requires c κs = search needs
-
-field-requires : tie.Need-field-requires
-field-requires c κs = search needs
-
 returns : tie.Need-returns
 unfolding field blockText
 returns c = c .field .ensures ∙ rw (c .before .length-before-end .ensures, c .before .before .rest .ensures) (take-before-end _)
 
 pub text-in-spec : {M : Type 1} → statement M
-text-in-spec = tie.close (tie.spec rest-requires length-before-end-requires field-requires returns)
+text-in-spec = tie.close (tie.spec (λ c κs. search needs) (λ c κs. search needs) (λ c κs. search needs) returns)

@@ -6,21 +6,6 @@ use borrow.Author.Needs.{needs}
 use Rattle.cells.proofs.drawing.cell_of.Statement.{statement}
 use Rattle.cells.proofs.drawing.cell_of.Tie as tie
 
-enum-known-token : tie.Need-enum-known-token
-enum-known-token c = search needs
-
-enum-known-token-2 : tie.Need-enum-known-token-2
-enum-known-token-2 c = search needs
-
-control-here-requires : tie.Need-control-here-requires
-control-here-requires c κs = search needs
-
-enum-told : tie.Need-enum-told
-enum-told c = search needs
-
-enum-told-2 : tie.Need-enum-told-2
-enum-told-2 c = search needs
-
 returns : tie.Need-returns
 unfolding cellOf cellCharacter lookHere
 returns c = rw (c .before .token .given .1) (refl, refl)
@@ -39,14 +24,5 @@ returns-4 c = rw (c .enum-told2 .given .1) (refl, refl)
 
 pub cell-of-spec : {M : Type 1} → statement M
 cell-of-spec =
-    tie.close
-    (tie.spec
-    enum-known-token
-    enum-known-token-2
-    control-here-requires
-    enum-told
-    enum-told-2
-    returns
-    returns-2
-    returns-3
-    returns-4)
+    tie.close (tie.spec (λ c. search needs) (λ c. search needs) (λ c κs. search needs) (λ c. search needs) (λ c. search needs) returns
+    returns-2 returns-3 returns-4)

@@ -5,24 +5,6 @@ use borrow.Author.Needs.{needs}
 use Rattle.cells.proofs.drawing.pen_after.Statement.{statement}
 use Rattle.cells.proofs.drawing.pen_after.Tie as tie
 
-enum-told : tie.Need-enum-told
-enum-told c = search needs
-
-enum-known-token : tie.Need-enum-known-token
-enum-known-token c = search needs
-
-control-here-requires : tie.Need-control-here-requires
-control-here-requires c κs = search needs
-
-control-next-requires : tie.Need-control-next-requires
-control-next-requires c κs = search needs
-
-enum-told-2 : tie.Need-enum-told-2
-enum-told-2 c = search needs
-
-enum-told-3 : tie.Need-enum-told-3
-enum-told-3 c = search needs
-
 returns : tie.Need-returns
 unfolding penAfter lookNext
 returns c = rw (c .enum-told .given .1)
@@ -41,15 +23,5 @@ returns-4 c = rw (c .enum-told3 .given .1)
 
 pub pen-after-spec : {M : Type 1} → statement M
 pen-after-spec =
-    tie.close
-    (tie.spec
-    enum-told
-    enum-known-token
-    control-here-requires
-    control-next-requires
-    enum-told-2
-    enum-told-3
-    returns
-    returns-2
-    returns-3
-    returns-4)
+    tie.close (tie.spec (λ c. search needs) (λ c. search needs) (λ c κs. search needs) (λ c κs. search needs) (λ c. search needs)
+    (λ c. search needs) returns returns-2 returns-3 returns-4)

@@ -5,12 +5,9 @@ use borrow.Author.Needs.{needs}
 use Rattle.cells.proofs.drawing.row_start.Statement.{statement}
 use Rattle.cells.proofs.drawing.row_start.Tie as tie
 
-new-requires : tie.Need-new-requires
-new-requires c κs = search needs
-
 returns : tie.Need-returns
 unfolding rowStart
 returns c = search needs
 
 pub row-start-spec : {M : Type 1} → statement M
-row-start-spec = tie.close (tie.spec new-requires returns)
+row-start-spec = tie.close (tie.spec (λ c κs. search needs) returns)

@@ -5,9 +5,6 @@ use borrow.Author.Needs.{needs}
 use Rattle.cells.proofs.joining.foreground_with.Statement.{statement}
 use Rattle.cells.proofs.joining.foreground_with.Tie as tie
 
-is-blank-requires : tie.Need-is-blank-requires
-is-blank-requires c κs = search needs
-
 returns : tie.Need-returns
 unfolding foregroundWith
 returns c = rw (← (c .before .before .is-blank .ensures), c .if1 .taken)
@@ -17,4 +14,4 @@ unfolding foregroundWith
 returns-2 c = rw (← (c .before .before .is-blank .ensures), c .if1 .left)
 
 pub foreground-with-spec : {M : Type 1} → statement M
-foreground-with-spec = tie.close (tie.spec is-blank-requires returns returns-2)
+foreground-with-spec = tie.close (tie.spec (λ c κs. search needs) returns returns-2)

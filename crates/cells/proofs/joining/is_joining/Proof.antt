@@ -6,21 +6,6 @@ use borrow.Author.Needs.{needs}
 use Rattle.cells.proofs.joining.is_joining.Statement.{statement}
 use Rattle.cells.proofs.joining.is_joining.Tie as tie
 
-packed-shared-requires : tie.Need-packed-shared-requires
-packed-shared-requires c κs = search needs
-
-packed-shared-requires-2 : tie.Need-packed-shared-requires-2
-packed-shared-requires-2 c κs = search needs
-
-is-blank-requires : tie.Need-is-blank-requires
-is-blank-requires c κs = search needs
-
-packed-free-requires : tie.Need-packed-free-requires
-packed-free-requires c κs = search needs
-
-packed-free-requires-2 : tie.Need-packed-free-requires-2
-packed-free-requires-2 c κs = search needs
-
 returns : tie.Need-returns
 unfolding joins packedCell
 returns c =
@@ -35,11 +20,5 @@ returns c =
 
 pub is-joining-spec : {M : Type 1} → statement M
 is-joining-spec =
-    tie.close
-    (tie.spec
-    packed-shared-requires
-    packed-shared-requires-2
-    is-blank-requires
-    packed-free-requires
-    packed-free-requires-2
+    tie.close (tie.spec (λ c κs. search needs) (λ c κs. search needs) (λ c κs. search needs) (λ c κs. search needs) (λ c κs. search needs)
     returns)

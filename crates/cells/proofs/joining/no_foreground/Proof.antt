@@ -5,12 +5,9 @@ use borrow.Author.Needs.{needs}
 use Rattle.cells.proofs.joining.no_foreground.Statement.{statement}
 use Rattle.cells.proofs.joining.no_foreground.Tie as tie
 
-cast-t1 : tie.Need-cast-t1
-cast-t1 c = search needs
-
 returns : tie.Need-returns
 unfolding noForeground
 returns c = search needs
 
 pub no-foreground-spec : {M : Type 1} → statement M
-no-foreground-spec = tie.close (tie.spec cast-t1 returns)
+no-foreground-spec = tie.close (tie.spec (λ c. search needs) returns)

@@ -14,12 +14,6 @@ returns : tie.Need-returns
 unfolding accent
 returns c = rw (lt-leb 192 _ (c .if1 .taken), accent)
 
-cast-result : tie.Need-cast-result
-cast-result c = search needs
-
-array-read-result : tie.Need-array-read-result
-array-read-result c = search needs
-
 returns-2 : tie.Need-returns-2
 unfolding accent accents
 returns-2 c = rw (le-leb 192 _ (c .before .if1 .left), accent)
@@ -31,4 +25,4 @@ returns-3 c =
     rw (le-leb 192 _ (c .before .if1 .left), accent) (sym (List·getD-eq-default accents 0 past))
 
 pub accent-spec : {M : Type 1} → statement M
-accent-spec = tie.close (tie.spec returns cast-result array-read-result returns-2 returns-3)
+accent-spec = tie.close (tie.spec returns (λ c. search needs) (λ c. search needs) returns-2 returns-3)

@@ -16,24 +16,6 @@ returns c = rw (c .if1 .taken)
 returns-2 : tie.Need-returns-2
 returns-2 c = rw (c .if2 .taken) (sym (composed-alone _))
 
-sub-row : tie.Need-sub-row
-sub-row c = search needs
-
-sub-column : tie.Need-sub-column
-sub-column c = search needs
-
-mul-place : tie.Need-mul-place
-mul-place c = search needs
-
-add-place : tie.Need-add-place
-add-place c = search needs
-
-mul-result : tie.Need-mul-result
-mul-result c = search needs
-
-array-read-result : tie.Need-array-read-result
-array-read-result c = search needs
-
 returns-3 : tie.Need-returns-3
 unfolding composedTable
 returns-3 c = sym (composed-at _ _ (omega arith) (omega arith))
@@ -43,15 +25,5 @@ returns-4 c = sym (composed-beyond _ _ (omega arith) (omega arith) (omega arith)
 
 pub composed-spec : {M : Type 1} → statement M
 composed-spec =
-    tie.close
-    (tie.spec
-    returns
-    returns-2
-    sub-row
-    sub-column
-    mul-place
-    add-place
-    mul-result
-    array-read-result
-    returns-3
-    returns-4)
+    tie.close (tie.spec returns returns-2 (λ c. search needs) (λ c. search needs) (λ c. search needs) (λ c. search needs)
+    (λ c. search needs) (λ c. search needs) returns-3 returns-4)

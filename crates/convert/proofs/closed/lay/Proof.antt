@@ -14,21 +14,8 @@ returns c = laid-comment _ _ _ _ (c .if1 .taken) (omega arith) (search needs) (s
 slice-aggregate-put-paragraph : tie.Need-slice-aggregate-put-paragraph
 slice-aggregate-put-paragraph c = sym (length-take-le _ _ (c .before .before .before .before .before .before .before .pre))
 
-put-paragraph-requires : tie.Need-put-paragraph-requires
-put-paragraph-requires c κs = search needs
-
-same-length : tie.Need-same-length
-same-length c = search needs
-
 returns-2 : tie.Need-returns-2
 returns-2 c = laid-subtitle _ _ _ (c .before .before .before .before .before .if1 .left) (c .before .before .put-paragraph .ensures)
 
 pub lay-spec : {M : Type 1} → statement M
-lay-spec =
-    tie.close
-    (tie.spec
-    returns
-    slice-aggregate-put-paragraph
-    put-paragraph-requires
-    same-length
-    returns-2)
+lay-spec = tie.close (tie.spec returns slice-aggregate-put-paragraph (λ c κs. search needs) (λ c. search needs) returns-2)

@@ -13,12 +13,8 @@ returns c = rule-comment _ _ _ (c .if1 .taken)
 slice-aggregate-text-rule : tie.Need-slice-aggregate-text-rule
 slice-aggregate-text-rule c = sym (length-take-le _ _ (c .before .before .before .before .before .before .pre))
 
-text-rule-requires : tie.Need-text-rule-requires
-text-rule-requires c κs = search needs
-
 returns-2 : tie.Need-returns-2
 returns-2 c = c .text-rule .ensures ∙ rule-subtitle _ _ _ (c .before .before .before .if1 .left)
 
 pub set-rule-spec : {M : Type 1} → statement M
-set-rule-spec =
-    tie.close (tie.spec returns slice-aggregate-text-rule text-rule-requires returns-2)
+set-rule-spec = tie.close (tie.spec returns slice-aggregate-text-rule (λ c κs. search needs) returns-2)

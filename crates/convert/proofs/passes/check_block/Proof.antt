@@ -8,36 +8,12 @@ use Rattle.convert.proofs.Stepping.{checked-refused, checked-pending, c
 use Rattle.convert.proofs.passes.check_block.Statement.{statement}
 use Rattle.convert.proofs.passes.check_block.Tie as tie
 
-advance-requires : tie.Need-advance-requires
-advance-requires c κs = search needs
-
-enum-known-step : tie.Need-enum-known-step
-enum-known-step c = search needs
-
-refused-requires : tie.Need-refused-requires
-refused-requires c κs = search needs
-
-enum-known-step-2 : tie.Need-enum-known-step-2
-enum-known-step-2 c = search needs
-
-going-requires : tie.Need-going-requires
-going-requires c κs = search needs
-
-enum-known-step-3 : tie.Need-enum-known-step-3
-enum-known-step-3 c = search needs
-
 set-rule-requires : tie.Need-set-rule-requires
 set-rule-requires c κs =
     let a = c .before .before .before .before .before .before in
     let e = a .before .before .before .before .before .before .before .pre in
     let d = stepped _ _ _ _ _ (a .advance .ensures .0) (a .advance .ensures .1) (e .0) (e .1) (e .2) in
     closed-size d (c .before .before .step3 .given .1)
-
-refused-requires-2 : tie.Need-refused-requires-2
-refused-requires-2 c κs = search needs
-
-same-length : tie.Need-same-length
-same-length c = search needs
 
 returns : tie.Need-returns
 returns c =
@@ -53,12 +29,6 @@ lay-requires c κs =
     let d = stepped _ _ _ _ _ (a .advance .ensures .0) (a .advance .ensures .1) (e .0) (e .1) (e .2) in
     closed-size d (c .before .before .before .before .before .before .step3 .given .1)
 
-going-requires-2 : tie.Need-going-requires-2
-going-requires-2 c κs = search needs
-
-same-length-2 : tie.Need-same-length-2
-same-length-2 c = search needs
-
 returns-2 : tie.Need-returns-2
 returns-2 c =
     let a = c .before .before .before .before .before .before in
@@ -66,21 +36,12 @@ returns-2 c =
     let d = stepped _ _ _ _ _ (a .advance .ensures .0) (a .advance .ensures .1) (e .0) (e .1) (e .2) in
     checked-refused d (c .before .before .step .given .1) _ (c .refused .ensures)
 
-same-length-3 : tie.Need-same-length-3
-same-length-3 c = search needs
-
 returns-3 : tie.Need-returns-3
 returns-3 c =
     let a = c .before .before .before .before .before .before in
     let e = a .before .before .before .before .before .before .before .pre in
     let d = stepped _ _ _ _ _ (a .advance .ensures .0) (a .advance .ensures .1) (e .0) (e .1) (e .2) in
     checked-pending d (c .before .before .step2 .given .1) (c .going .ensures) (laid-none _ (omega (arith, a .before .before .before .before .before .before .before .good)) (omega (arith, a .before .before .before .before .before .before .before .good)) (omega (arith, a .before .before .before .before .before .before .before .good))) _ (e .3)
-
-same-length-4 : tie.Need-same-length-4
-same-length-4 c = search needs
-
-same-length-5 : tie.Need-same-length-5
-same-length-5 c = search needs
 
 returns-4 : tie.Need-returns-4
 returns-4 c =
@@ -91,24 +52,6 @@ returns-4 c =
 
 pub check-block-spec : {M : Type 1} → statement M
 check-block-spec =
-    tie.close
-    (tie.spec
-    advance-requires
-    enum-known-step
-    refused-requires
-    enum-known-step-2
-    going-requires
-    enum-known-step-3
-    set-rule-requires
-    refused-requires-2
-    same-length
-    returns
-    lay-requires
-    going-requires-2
-    same-length-2
-    returns-2
-    same-length-3
-    returns-3
-    same-length-4
-    same-length-5
-    returns-4)
+    tie.close (tie.spec (λ c κs. search needs) (λ c. search needs) (λ c κs. search needs) (λ c. search needs) (λ c κs. search needs)
+    (λ c. search needs) set-rule-requires (λ c κs. search needs) (λ c. search needs) returns lay-requires (λ c κs. search needs)
+    (λ c. search needs) returns-2 (λ c. search needs) returns-3 (λ c. search needs) (λ c. search needs) returns-4)

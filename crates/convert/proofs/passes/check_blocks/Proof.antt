@@ -15,9 +15,6 @@ Inv-loop file n f text₀ out₀ w₀ k₀ text out w k = Checking f file n out�
 abbrev μ-loop : tie.MeasureT-loop
 μ-loop file n f text₀ out₀ w₀ k₀ text out w k = n - k
 
-none-requires : tie.Need-none-requires Inv-loop μ-loop
-none-requires c κs = search needs
-
 loop-holds : tie.Need-loop-holds Inv-loop μ-loop
 loop-holds c =
     let s = c .before .before .before .before in
@@ -32,9 +29,6 @@ same-length-2 c = c .before .before .before .loop .inv .same
 returns : tie.Need-returns Inv-loop μ-loop
 returns c = checked-end _ _ (c .before .before .before .loop .inv) (c .if1 .taken)
 
-bytes-at-requires : tie.Need-bytes-at-requires Inv-loop μ-loop
-bytes-at-requires c κs = search needs
-
 check-block-requires : tie.Need-check-block-requires Inv-loop μ-loop
 check-block-requires c κs =
     let l = c .before .before .before .before .before .before in
@@ -43,9 +37,6 @@ check-block-requires c κs =
 
 add-k : tie.Need-add-k Inv-loop μ-loop
 add-k c = omega (arith, c .before .before .before .before .before .before .before .before .before .before .loop-test .taken, c .before .before .before .before .before .before .before .before .before .before .before .before .before .before .before .before .pre .0)
-
-loop-less : tie.Need-loop-less Inv-loop μ-loop
-loop-less c = search needs
 
 loop-again : tie.Need-loop-again Inv-loop μ-loop
 loop-again c =
@@ -61,9 +52,6 @@ same-length-4 c = c .before .before .before .loop .inv .same
 
 returns-2 : tie.Need-returns-2 Inv-loop μ-loop
 returns-2 c = checked-end _ _ (c .before .before .before .loop .inv) (c .if2 .taken)
-
-refused-requires : tie.Need-refused-requires Inv-loop μ-loop
-refused-requires c κs = search needs
 
 same-length-5 : tie.Need-same-length-5 Inv-loop μ-loop
 same-length-5 c = let l = c .before .before .before .before .before .before in l .loop .inv .long ∙ sym (l .before .before .before .before .before .pre .1)
@@ -85,27 +73,6 @@ returns-4 c = let l = c .before .before .before .before .before .loop .inv in ch
 
 pub check-blocks-spec : {M : Type 1} → statement M
 check-blocks-spec =
-    tie.close
-    (tie.spec
-    Inv-loop
-    μ-loop
-    none-requires
-    loop-holds
-    same-length
-    same-length-2
-    returns
-    bytes-at-requires
-    check-block-requires
-    add-k
-    loop-less
-    loop-again
-    same-length-3
-    same-length-4
-    returns-2
-    refused-requires
-    same-length-5
-    same-length-6
-    returns-3
-    same-length-7
-    same-length-8
-    returns-4)
+    tie.close (tie.spec Inv-loop μ-loop (λ c κs. search needs) loop-holds same-length same-length-2 returns (λ c κs. search needs)
+    check-block-requires add-k (λ c. search needs) loop-again same-length-3 same-length-4 returns-2 (λ c κs. search needs) same-length-5
+    same-length-6 returns-3 same-length-7 same-length-8 returns-4)

@@ -15,16 +15,10 @@ Inv-loop file n f text₀ out₀ w₀ k₀ text out w k = Writing f file n out�
 abbrev μ-loop : tie.MeasureT-loop
 μ-loop file n f text₀ out₀ w₀ k₀ text out w k = n - k
 
-none-requires : tie.Need-none-requires Inv-loop μ-loop
-none-requires c κs = search needs
-
 loop-holds : tie.Need-loop-holds Inv-loop μ-loop
 loop-holds c =
     let s = c .before .before .before .before in
     writing-start _ _ _ (c .none .ensures) (s .pre .1) (omega (arith, s .good)) (omega (arith, s .good)) (omega (arith, s .good))
-
-bytes-at-requires : tie.Need-bytes-at-requires Inv-loop μ-loop
-bytes-at-requires c κs = search needs
 
 write-block-requires : tie.Need-write-block-requires Inv-loop μ-loop
 write-block-requires c κs =
@@ -33,9 +27,6 @@ write-block-requires c κs =
 
 add-k : tie.Need-add-k Inv-loop μ-loop
 add-k c = omega (arith, c .before .before .before .before .before .before .before .before .loop-test .taken, c .before .before .before .before .before .before .before .before .before .before .before .before .before .before .pre .0)
-
-loop-less : tie.Need-loop-less Inv-loop μ-loop
-loop-less c = search needs
 
 loop-again : tie.Need-loop-again Inv-loop μ-loop
 loop-again c =
@@ -53,17 +44,5 @@ returns c = let l = c .before .before .loop .inv in written-all _ _ l (omega (ar
 
 pub write-blocks-spec : {M : Type 1} → statement M
 write-blocks-spec =
-    tie.close
-    (tie.spec
-    Inv-loop
-    μ-loop
-    none-requires
-    loop-holds
-    bytes-at-requires
-    write-block-requires
-    add-k
-    loop-less
-    loop-again
-    same-length
-    same-length-2
-    returns)
+    tie.close (tie.spec Inv-loop μ-loop (λ c κs. search needs) loop-holds (λ c κs. search needs) write-block-requires add-k
+    (λ c. search needs) loop-again same-length same-length-2 returns)

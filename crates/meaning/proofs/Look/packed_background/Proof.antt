@@ -5,12 +5,9 @@ use Rattle.meaning.specs.Looks.{unpack}
 use Rattle.meaning.proofs.Look.packed_background.Statement.{statement}
 use Rattle.meaning.proofs.Look.packed_background.Tie as tie
 
-cast-result : tie.Need-cast-result
-cast-result c = search needs
-
 returns : tie.Need-returns
 unfolding unpack
 returns c = search needs
 
 pub packed-background-spec : {M : Type 1} → statement M
-packed-background-spec = tie.close (tie.spec cast-result returns)
+packed-background-spec = tie.close (tie.spec (λ c. search needs) returns)

@@ -5,14 +5,8 @@ use Rattle.meaning.proofs.LookLaws.{packed-shared}
 use Rattle.meaning.proofs.Look.packed_shared.Statement.{statement}
 use Rattle.meaning.proofs.Look.packed_shared.Tie as tie
 
-mul-result : tie.Need-mul-result
-mul-result c = search needs
-
-add-result : tie.Need-add-result
-add-result c = search needs
-
 returns : tie.Need-returns
 returns c = packed-shared _
 
 pub packed-shared-spec : {M : Type 1} → statement M
-packed-shared-spec = tie.close (tie.spec mul-result add-result returns)
+packed-shared-spec = tie.close (tie.spec (λ c. search needs) (λ c. search needs) returns)

@@ -5,12 +5,9 @@ use borrow.Author.Needs.{needs}
 use Rattle.meaning.proofs.Pen.new.Statement.{statement}
 use Rattle.meaning.proofs.Pen.new.Tie as tie
 
-white-on-black-requires : tie.Need-white-on-black-requires
-white-on-black-requires c κs = search needs
-
 returns : tie.Need-returns
 unfolding newPen
 returns c = rw (c .white-on-black .ensures)
 
 pub new-spec : {M : Type 1} → statement M
-new-spec = tie.close (tie.spec white-on-black-requires returns)
+new-spec = tie.close (tie.spec (λ c κs. search needs) returns)

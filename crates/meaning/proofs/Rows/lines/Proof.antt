@@ -5,12 +5,6 @@ use borrow.Author.Needs.{needs}
 use Rattle.meaning.proofs.Rows.lines.Statement.{statement}
 use Rattle.meaning.proofs.Rows.lines.Tie as tie
 
-cast-n : tie.Need-cast-n
-cast-n c = search needs
-
-mul-t6 : tie.Need-mul-t6
-mul-t6 c = search needs
-
 returns : tie.Need-returns
 unfolding linesOf
 returns c = rw (c .if1 .taken)
@@ -20,4 +14,4 @@ unfolding linesOf
 returns-2 c = rw (c .if1 .left)
 
 pub lines-spec : {M : Type 1} → statement M
-lines-spec = tie.close (tie.spec cast-n mul-t6 returns returns-2)
+lines-spec = tie.close (tie.spec (λ c. search needs) (λ c. search needs) returns returns-2)

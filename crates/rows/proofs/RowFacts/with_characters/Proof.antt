@@ -6,11 +6,8 @@ use Rattle.rows.proofs.Counted.{characters-at-once}
 use Rattle.rows.proofs.RowFacts.with_characters.Statement.{statement}
 use Rattle.rows.proofs.RowFacts.with_characters.Tie as tie
 
-many-up-to-requires : tie.Need-many-up-to-requires
-many-up-to-requires c κs = search needs
-
 returns : tie.Need-returns
 returns c = rw (c .before .many-up-to .ensures) (sym (characters-at-once _ _))
 
 pub with-characters-spec : {M : Type 1} → statement M
-with-characters-spec = tie.close (tie.spec many-up-to-requires returns)
+with-characters-spec = tie.close (tie.spec (λ c κs. search needs) returns)

@@ -7,21 +7,6 @@ use Rattle.rows.specs.Scanning.{withToken}
 use Rattle.rows.proofs.RowFacts.with_token.Statement.{statement}
 use Rattle.rows.proofs.RowFacts.with_token.Tie as tie
 
-more-up-to-requires : tie.Need-more-up-to-requires
-more-up-to-requires c κs = search needs
-
-enum-told : tie.Need-enum-told
-enum-told c = search needs
-
-enum-known-t : tie.Need-enum-known-t
-enum-known-t c = search needs
-
-enum-told-2 : tie.Need-enum-told-2
-enum-told-2 c = search needs
-
-enum-told-3 : tie.Need-enum-told-3
-enum-told-3 c = search needs
-
 returns : tie.Need-returns
 unfolding withToken isListed isCharacter takesCell isDoubleHeight
 returns c = rw (c .enum-told .given .1, c .before .before .more-up-to .ensures)
@@ -44,15 +29,5 @@ returns-5 c = rw (c .enum-told3 .given .1, c .before .before .more-up-to .ensure
 
 pub with-token-spec : {M : Type 1} → statement M
 with-token-spec =
-    tie.close
-    (tie.spec
-    more-up-to-requires
-    enum-told
-    enum-known-t
-    enum-told-2
-    enum-told-3
-    returns
-    returns-2
-    returns-3
-    returns-4
-    returns-5)
+    tie.close (tie.spec (λ c κs. search needs) (λ c. search needs) (λ c. search needs) (λ c. search needs) (λ c. search needs) returns
+    returns-2 returns-3 returns-4 returns-5)

@@ -5,12 +5,9 @@ use Rattle.rows.specs.Scanning.{withRow}
 use Rattle.rows.proofs.TextFacts.with_row.Statement.{statement}
 use Rattle.rows.proofs.TextFacts.with_row.Tie as tie
 
-more-up-to-requires : tie.Need-more-up-to-requires
-more-up-to-requires c κs = search needs
-
 returns : tie.Need-returns
 unfolding withRow
 returns c = rw (c .more-up-to .ensures)
 
 pub with-row-spec : {M : Type 1} → statement M
-with-row-spec = tie.close (tie.spec more-up-to-requires returns)
+with-row-spec = tie.close (tie.spec (λ c κs. search needs) returns)

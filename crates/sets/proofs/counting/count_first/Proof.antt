@@ -7,20 +7,13 @@ use Rattle.sets.specs.Stepping.{countedFirst}
 use Rattle.sets.proofs.counting.count_first.Statement.{statement}
 use Rattle.sets.proofs.counting.count_first.Tie as tie
 
-more-requires : tie.Need-more-requires
-more-requires c κs = search needs
-
 returns : tie.Need-returns
 unfolding countedFirst isComment
 returns c = rw (c .more .ensures, eq-eqb _ 1 (c .before .if1 .taken), countedFirst)
-
-more-requires-2 : tie.Need-more-requires-2
-more-requires-2 c κs = search needs
 
 returns-2 : tie.Need-returns-2
 unfolding countedFirst isComment
 returns-2 c = rw (c .more2 .ensures, ne-eqb _ 1 (c .before .if1 .left), countedFirst)
 
 pub count-first-spec : {M : Type 1} → statement M
-count-first-spec =
-    tie.close (tie.spec more-requires returns more-requires-2 returns-2)
+count-first-spec = tie.close (tie.spec (λ c κs. search needs) returns (λ c κs. search needs) returns-2)

@@ -6,9 +6,6 @@ use Rattle.output.specs.Output.{past}
 use Rattle.sets.proofs.counting.more.Statement.{statement}
 use Rattle.sets.proofs.counting.more.Tie as tie
 
-add-result : tie.Need-add-result
-add-result c = search needs
-
 returns : tie.Need-returns
 unfolding past
 returns c = omega arith
@@ -18,4 +15,4 @@ unfolding past
 returns-2 c = omega arith
 
 pub more-spec : {M : Type 1} → statement M
-more-spec = tie.close (tie.spec add-result returns returns-2)
+more-spec = tie.close (tie.spec (λ c. search needs) returns returns-2)

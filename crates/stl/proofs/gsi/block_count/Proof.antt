@@ -9,12 +9,9 @@ returns : tie.Need-returns
 unfolding blockCount
 returns c = search needs
 
-sub-result : tie.Need-sub-result
-sub-result c = search needs
-
 returns-2 : tie.Need-returns-2
 unfolding blockCount
 returns-2 c = search needs
 
 pub block-count-spec : {M : Type 1} → statement M
-block-count-spec = tie.close (tie.spec returns sub-result returns-2)
+block-count-spec = tie.close (tie.spec returns (λ c. search needs) returns-2)

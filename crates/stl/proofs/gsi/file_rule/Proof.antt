@@ -10,63 +10,9 @@ use Rattle.stl.proofs.Turns.{in-turn}
 use Rattle.stl.proofs.gsi.file_rule.Statement.{statement}
 use Rattle.stl.proofs.gsi.file_rule.Tie as tie
 
-is-either-requires : tie.Need-is-either-requires
-is-either-requires c κs = search needs
-
-in-turn-requires : tie.Need-in-turn-requires
-in-turn-requires c κs = search needs
-
-is-whole-requires : tie.Need-is-whole-requires
-is-whole-requires c κs = search needs
-
-in-turn-requires-2 : tie.Need-in-turn-requires-2
-in-turn-requires-2 c κs = search needs
-
-rate-requires : tie.Need-rate-requires
-rate-requires c κs = search needs
-
-is-either-requires-2 : tie.Need-is-either-requires-2
-is-either-requires-2 c κs = search needs
-
-in-turn-requires-3 : tie.Need-in-turn-requires-3
-in-turn-requires-3 c κs = search needs
-
-byte-requires : tie.Need-byte-requires
-byte-requires c κs = search needs
-
-cast-is-either : tie.Need-cast-is-either
-cast-is-either c = search needs
-
-is-either-requires-3 : tie.Need-is-either-requires-3
-is-either-requires-3 c κs = search needs
-
-in-turn-requires-4 : tie.Need-in-turn-requires-4
-in-turn-requires-4 c κs = search needs
-
-field-requires : tie.Need-field-requires
-field-requires c κs = search needs
-
-slice-aggregate-same : tie.Need-slice-aggregate-same
-slice-aggregate-same c = search needs
-
-same-requires : tie.Need-same-requires
-same-requires c κs = search needs
-
-in-turn-requires-5 : tie.Need-in-turn-requires-5
-in-turn-requires-5 c κs = search needs
-
-field-requires-2 : tie.Need-field-requires-2
-field-requires-2 c κs = search needs
-
-block-count-requires : tie.Need-block-count-requires
-block-count-requires c κs = search needs
-
 writes-requires : tie.Need-writes-requires
 unfolding field
 writes-requires c κs = rw (c .before .field2 .ensures) (simp length-take (omega arith))
-
-in-turn-requires-6 : tie.Need-in-turn-requires-6
-in-turn-requires-6 c κs = search needs
 
 returns : tie.Need-returns
 unfolding fileRule isRate tnb bytes all
@@ -99,25 +45,7 @@ returns c =
 
 pub file-rule-spec : {M : Type 1} → statement M
 file-rule-spec =
-    tie.close
-    (tie.spec
-    is-either-requires
-    in-turn-requires
-    is-whole-requires
-    in-turn-requires-2
-    rate-requires
-    is-either-requires-2
-    in-turn-requires-3
-    byte-requires
-    cast-is-either
-    is-either-requires-3
-    in-turn-requires-4
-    field-requires
-    slice-aggregate-same
-    same-requires
-    in-turn-requires-5
-    field-requires-2
-    block-count-requires
-    writes-requires
-    in-turn-requires-6
-    returns)
+    tie.close (tie.spec (λ c κs. search needs) (λ c κs. search needs) (λ c κs. search needs) (λ c κs. search needs) (λ c κs. search needs)
+    (λ c κs. search needs) (λ c κs. search needs) (λ c κs. search needs) (λ c. search needs) (λ c κs. search needs) (λ c κs. search needs)
+    (λ c κs. search needs) (λ c. search needs) (λ c κs. search needs) (λ c κs. search needs) (λ c κs. search needs) (λ c κs. search needs)
+    writes-requires (λ c κs. search needs) returns)

@@ -5,12 +5,9 @@ use Rattle.meaning.specs.Gsi.{teletext, formatOf}
 use Rattle.stl.proofs.gsi.format.Statement.{statement}
 use Rattle.stl.proofs.gsi.format.Tie as tie
 
-rate-requires : tie.Need-rate-requires
-rate-requires c κs = search needs
-
 returns : tie.Need-returns
 unfolding teletext formatOf
 returns c = rw (c .rate .ensures)
 
 pub format-spec : {M : Type 1} → statement M
-format-spec = tie.close (tie.spec rate-requires returns)
+format-spec = tie.close (tie.spec (λ c κs. search needs) returns)

@@ -7,24 +7,9 @@ use Rattle.stl.proofs.Comparing.{rate-25, rate-30, rate-none}
 use Rattle.stl.proofs.gsi.rate.Statement.{statement}
 use Rattle.stl.proofs.gsi.rate.Tie as tie
 
-field-requires : tie.Need-field-requires
-field-requires c κs = search needs
-
-slice-aggregate-same : tie.Need-slice-aggregate-same
-slice-aggregate-same c = search needs
-
-same-requires : tie.Need-same-requires
-same-requires c κs = search needs
-
 returns : tie.Need-returns
 unfolding bytes
 returns c = sym (rate-25 _ _ (c .before .before .before .field .ensures) (sym (c .before .same .ensures) ∙ c .if1 .taken))
-
-slice-aggregate-same-2 : tie.Need-slice-aggregate-same-2
-slice-aggregate-same-2 c = search needs
-
-same-requires-2 : tie.Need-same-requires-2
-same-requires-2 c κs = search needs
 
 returns-2 : tie.Need-returns-2
 unfolding bytes
@@ -46,13 +31,5 @@ returns-3 c =
 
 pub rate-spec : {M : Type 1} → statement M
 rate-spec =
-    tie.close
-    (tie.spec
-    field-requires
-    slice-aggregate-same
-    same-requires
-    returns
-    slice-aggregate-same-2
-    same-requires-2
-    returns-2
-    returns-3)
+    tie.close (tie.spec (λ c κs. search needs) (λ c. search needs) (λ c κs. search needs) returns (λ c. search needs) (λ c κs. search needs)
+    returns-2 returns-3)

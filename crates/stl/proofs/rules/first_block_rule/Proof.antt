@@ -9,36 +9,12 @@ use Rattle.stl.proofs.Turns.{in-turn}
 use Rattle.stl.proofs.rules.first_block_rule.Statement.{statement}
 use Rattle.stl.proofs.rules.first_block_rule.Tie as tie
 
-in-turn-requires : tie.Need-in-turn-requires
-in-turn-requires c κs = search needs
-
-cast-in-turn : tie.Need-cast-in-turn
-cast-in-turn c = search needs
-
-in-turn-requires-2 : tie.Need-in-turn-requires-2
-in-turn-requires-2 c κs = search needs
-
 returns : tie.Need-returns
 unfolding firstBlockRule isComment all
 returns c =
     let c2 = c .before .before in
     let c1 = c2 .before .before in
     rw (c2 .in-turn2 .ensures, c1 .in-turn .ensures, eq-eqb _ 1 (c .if1 .taken)) (in-turn _ refl)
-
-in-turn-requires-3 : tie.Need-in-turn-requires-3
-in-turn-requires-3 c κs = search needs
-
-times-right-requires : tie.Need-times-right-requires
-times-right-requires c κs = search needs
-
-in-turn-requires-4 : tie.Need-in-turn-requires-4
-in-turn-requires-4 c κs = search needs
-
-is-placed-requires : tie.Need-is-placed-requires
-is-placed-requires c κs = search needs
-
-in-turn-requires-5 : tie.Need-in-turn-requires-5
-in-turn-requires-5 c κs = search needs
 
 returns-2 : tie.Need-returns-2
 unfolding firstBlockRule isComment all
@@ -60,15 +36,5 @@ returns-2 c =
 
 pub first-block-rule-spec : {M : Type 1} → statement M
 first-block-rule-spec =
-    tie.close
-    (tie.spec
-    in-turn-requires
-    cast-in-turn
-    in-turn-requires-2
-    returns
-    in-turn-requires-3
-    times-right-requires
-    in-turn-requires-4
-    is-placed-requires
-    in-turn-requires-5
-    returns-2)
+    tie.close (tie.spec (λ c κs. search needs) (λ c. search needs) (λ c κs. search needs) returns (λ c κs. search needs)
+    (λ c κs. search needs) (λ c κs. search needs) (λ c κs. search needs) (λ c κs. search needs) returns-2)

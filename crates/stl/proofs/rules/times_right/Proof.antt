@@ -6,18 +6,6 @@ use Rattle.stl.proofs.Times as times
 use Rattle.stl.proofs.rules.times_right.Statement.{statement}
 use Rattle.stl.proofs.rules.times_right.Tie as tie
 
-in-range-requires : tie.Need-in-range-requires
-in-range-requires c κs = search needs
-
-in-range-requires-2 : tie.Need-in-range-requires-2
-in-range-requires-2 c κs = search needs
-
-in-256ths-requires : tie.Need-in-256ths-requires
-in-256ths-requires c κs = search needs
-
-in-256ths-requires-2 : tie.Need-in-256ths-requires-2
-in-256ths-requires-2 c κs = search needs
-
 returns : tie.Need-returns
 unfolding inFrames
 returns c =
@@ -26,11 +14,4 @@ returns c =
     (times.times-right (a .rate) (a .start) (a .stop) (search needs) (search needs))
 
 pub times-right-spec : {M : Type 1} → statement M
-times-right-spec =
-    tie.close
-    (tie.spec
-    in-range-requires
-    in-range-requires-2
-    in-256ths-requires
-    in-256ths-requires-2
-    returns)
+times-right-spec = tie.close (tie.spec (λ c κs. search needs) (λ c κs. search needs) (λ c κs. search needs) (λ c κs. search needs) returns)

@@ -9,16 +9,10 @@ use borrow.Author.Needs.{needs}
 use Rattle.styles.proofs.Marks.marked.Statement.{statement}
 use Rattle.styles.proofs.Marks.marked.Tie as tie
 
-element-write-self : tie.Need-element-write-self
-element-write-self c = search needs
-
-returns : tie.Need-returns
-returns c = search needs
-
 returns-2 : tie.Need-returns-2
 returns-2 c =
     let n : length (c .before .args .t1 .on) ≡ lookCount = search needs in
     sym (set-out _ _ _ (omega arith))
 
 pub marked-spec : {M : Type 1} → statement M
-marked-spec = tie.close (tie.spec element-write-self returns returns-2)
+marked-spec = tie.close (tie.spec (λ c. search needs) (λ c. search needs) returns-2)
