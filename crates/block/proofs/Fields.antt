@@ -8,8 +8,8 @@ use mathlib.Core.Path.{_≡_, sym, _∙_}
 use lib.ListN.{length, take, drop, length-drop, drop-of-length-le}
 use lib.Seq.{take-all}
 
-pub take-rest : (s : List ℕ) (i : ℕ) → take (length s - i) (drop i s) ≡ drop i s
-take-rest s i = take-all (length s - i) (drop i s) (simp length-drop (omega arith))
+pub take-cut : (s : List ℕ) (i n : ℕ) → length s - i ≤ n → take (length s - i) (drop i s) ≡ take n (drop i s)
+take-cut s i n h = take-all (length s - i) (drop i s) (simp length-drop (omega arith)) ∙ sym (take-all n (drop i s) (simp length-drop (omega arith)))
 
 -- a start past the end leaves what the end leaves: nothing
 pub drop-within : (s : List ℕ) (i start : ℕ) → start ≡ min i (length s) → drop start s ≡ drop i s

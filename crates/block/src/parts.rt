@@ -2,8 +2,7 @@
 
 ghost use mathlib.Core.Path.{_≡_};
 ghost use Prim.Native.Nat.{_+_, _*_, min};
-ghost use lib.ListN.{drop};
-ghost use Rattle.meaning.specs.Gsi.{field};
+ghost use Rattle.meaning.specs.Lists.{field};
 ghost use Rattle.meaning.specs.Blocks.{blockAt};
 
 // Where a block starts, at most the file's end: no place is too large to multiply.
@@ -19,25 +18,17 @@ fn start_of(size: usize, k: usize) -> usize
     1024 + 128 * k
 }
 
-// The bytes from an offset on, none past the end.
-pub(crate) fn rest(s: &[u8], from: usize) -> &[u8]
-    ensures { λ r. ⌜ now r ≡ drop from (now (s .entry)) ⌝ }
-{
-    if s.len() <= from {
-        return &s[..0];
-    }
-    &s[from..]
-}
-
 // The n bytes from an offset on, or as many as there are.
 pub fn field(s: &[u8], from: usize, n: usize) -> &[u8]
     ensures { λ r. ⌜ now r ≡ field from n (now (s .entry)) ⌝ }
 {
-    let all = rest(s, from);
-    if all.len() <= n {
-        return all;
+    if s.len() <= from {
+        return &s[..0];
     }
-    &all[..n]
+    if s.len() - from <= n {
+        return &s[from..];
+    }
+    &s[from..from + n]
 }
 
 // The bytes of block k.

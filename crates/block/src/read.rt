@@ -3,9 +3,9 @@
 ghost use mathlib.Core.Path.{_≡_};
 ghost use Prim.Native.Nat.{_+_, _*_, _≤_};
 ghost use lib.ListN.{length};
-ghost use Rattle.meaning.specs.Blocks.{timeAt, headerOf, beforeEnd, blockText};
+ghost use Rattle.meaning.specs.Lists.{takeWhile};
+ghost use Rattle.meaning.specs.Blocks.{timeAt, headerOf, inText, blockText};
 use crate::parts::field;
-use crate::parts::rest;
 use meaning::Header;
 use meaning::Time;
 
@@ -59,7 +59,7 @@ pub(crate) fn header_in(b: &[u8]) -> Header
 
 // How many bytes stand before the first 8Fh.
 fn length_before_end(text: &[u8]) -> usize
-    ensures { λ r. ⌜ r ≡ length (beforeEnd (now (text .entry))) ⌝ }
+    ensures { λ r. ⌜ r ≡ length (takeWhile inText (now (text .entry))) ⌝ }
 {
     let mut i = 0;
     while i < text.len() {
@@ -75,6 +75,7 @@ fn length_before_end(text: &[u8]) -> usize
 pub(crate) fn text_in(b: &[u8]) -> &[u8]
     ensures { λ r. ⌜ now r ≡ blockText (now (b .entry)) ⌝ }
 {
-    let n = length_before_end(rest(b, 16));
-    field(b, 16, n)
+    let text = field(b, 16, 112);
+    let n = length_before_end(text);
+    &text[..n]
 }

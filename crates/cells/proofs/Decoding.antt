@@ -4,7 +4,7 @@ use Prim.Native.Nat.{ℕ, _+_, _-_, _≤_}
 use native.Mathlib.Omega.{arith}
 use mathlib.Core.Path.{_≡_, refl, sym, ap, _∙_}
 use mathlib.Core.Bool.{true, false}
-use mathlib.Core.List.{List, [], _∷_, _++_, map}
+use mathlib.Core.List.{List, [], _∷_, _++_, map, map-append}
 use lib.ListN.{length, take, drop, replicate, length-map, length-append, length-take, length-drop}
 use Rattle.meaning.specs.declared.Token.{Token}
 use Rattle.meaning.specs.declared.Token.the-variants.{Character, Control, RowEnd, Unlisted}
@@ -32,10 +32,6 @@ use Rattle.cells.specs.Decoded.{tokensFrom, rowAt, runCell, runCells, De
 
 first-of : {A : Type 0} {P : A → Type 0} {x : A} {xs : List A} → All P (x ∷ xs) → P x
 first-of (cons p h) = p
-
-map-append : {A B : Type 0} (f : A → B) (xs ys : List A) → map f (xs ++ ys) ≡ map f xs ++ map f ys
-map-append f [] ys = refl
-map-append {B = B} f (x ∷ xs) ys = ap (λ (l : List B). f x ∷ l) (map-append f xs ys)
 
 -- the cells of a row have looks of three bits each
 pub row-sound : (text : List ℕ) (start : ℕ) (pen : Pen) → All Sound (rowAt text start pen)
@@ -105,54 +101,20 @@ left-more {characters = characters} {looks} {n = n} cs rest a p q e =
       same-looks = length-stored looks n (map packedLook cs) ∙ a .same-looks;
     })
 
--- the tokens still to come of a row, after n cells
-pub record Coming (all : List Token) (whole : List Cell) (last : Pen) (characters₀ looks₀ characters looks : List ℕ) (pen : Pen) (ts : List Token) (n : ℕ) : Type 0 where
-  pub left : Left characters₀ looks₀ whole characters looks n (cellsFrom pen (firstRow ts))
-  pub ended : isEnded ts ≡ isEnded all
-  pub after : penEnd pen (firstRow ts) ≡ last
-
-module _
-    {all ts : List Token} {whole : List Cell} {last : Pen} {characters₀ looks₀ characters looks characters′ looks′ : List ℕ} {pen : Pen} {n m : ℕ} where
-  -- a token of the row
-  coming-more : {t : Token} → Coming all whole last characters₀ looks₀ characters looks pen (t ∷ ts) n → isRowEnd t ≡ false
-      → characters′ ≡ stored characters n (map character (cellsOf t pen)) → looks′ ≡ stored looks n (map packedLook (cellsOf t pen))
-      → m ≡ n + length (cellsOf t pen) → Coming all whole last characters₀ looks₀ characters′ looks′ (penAfter t pen) ts m
-  unfolding cellsFrom penEnd
-  coming-more {t} a e p q k =
-      let f = first-more t ts e in
-      record {
-        left = left-more (cellsOf t pen) (cellsFrom (penAfter t pen) (firstRow ts)) (rw f at (a .left)) p q k;
-        ended = sym (ended-more t ts e) ∙ a .ended;
-        after = sym (ap (penEnd pen) f) ∙ a .after;
-      }
-
-  -- a run of characters
-  coming-run : (cs : List ℕ) → Coming all whole last characters₀ looks₀ characters looks pen (map Character cs ++ ts) n
-      → characters′ ≡ stored characters n (map character (runCells pen cs)) → looks′ ≡ stored looks n (map packedLook (runCells pen cs))
-      → m ≡ n + length (runCells pen cs) → Coming all whole last characters₀ looks₀ characters′ looks′ pen ts m
-  coming-run cs a p q k =
-      let f = first-run ts cs in
-      record {
-        left = left-more (runCells pen cs) (cellsFrom pen (firstRow ts)) (rw (f, run-from pen cs (firstRow ts)) at (a .left)) p q k;
-        ended = sym (ended-run ts cs) ∙ a .ended;
-        after = sym (ap (penEnd pen) f ∙ run-end pen cs (firstRow ts)) ∙ a .after;
-      }
-
 -- the row from position i on, after n cells; `first` is the pen at its start
 pub record Ahead (text : List ℕ) (start : ℕ) (first : Pen) (characters₀ looks₀ characters looks : List ℕ) (pen : Pen) (i n : ℕ) : Type 0 where
-  pub coming : Coming (tokensFrom text start) (cellsFrom first (firstRow (tokensFrom text start))) (penEnd first (firstRow (tokensFrom text start))) characters₀ looks₀ characters looks pen (tokensFrom text i) n
+  pub left : Left characters₀ looks₀ (cellsFrom first (firstRow (tokensFrom text start))) characters looks n (cellsFrom pen (firstRow (tokensFrom text i)))
+  pub ended : isEnded (tokensFrom text i) ≡ isEnded (tokensFrom text start)
+  pub after : penEnd pen (firstRow (tokensFrom text i)) ≡ penEnd first (firstRow (tokensFrom text start))
   pub next : afterRowAt text i ≡ afterRowAt text start
   pub passed : start + n ≤ i
 
 pub ahead-all : (text : List ℕ) (start : ℕ) (first : Pen) (characters looks : List ℕ) → Ahead text start first characters looks characters looks first start 0
 ahead-all text start first characters looks =
     record {
-      coming =
-          record {
-            left = record { on-characters = refl; on-looks = refl; count = omega arith; same-characters = refl; same-looks = refl };
-            ended = refl;
-            after = refl;
-          };
+      left = record { on-characters = refl; on-looks = refl; count = omega arith; same-characters = refl; same-looks = refl };
+      ended = refl;
+      after = refl;
       next = refl;
       passed = omega arith;
     }
@@ -183,10 +145,15 @@ module _
     pub ahead-more : isRowEnd (r .token) ≡ false → {after : Pen} {characters′ looks′ : List ℕ} {m : ℕ} → after ≡ penAfter (r .token) pen
         → characters′ ≡ stored characters n (map character (cellsOf (r .token) pen)) → looks′ ≡ stored looks n (map packedLook (cellsOf (r .token) pen))
         → m ≡ n + length (cellsOf (r .token) pen) → Ahead text start first characters₀ looks₀ characters′ looks′ after (r .next) m
+    unfolding cellsFrom penEnd
     ahead-more e h p q k =
+        let ts = tokensFrom text (r .next) in
+        let f = ap firstRow (o .first) ∙ first-more (r .token) ts e in
         rw h
         (record {
-          coming = coming-more (rw (o .first) at (a .coming)) e p q k;
+          left = left-more (cellsOf (r .token) pen) (cellsFrom (penAfter (r .token) pen) (firstRow ts)) (rw f at (a .left)) p q k;
+          ended = sym (ap isEnded (o .first) ∙ ended-more (r .token) ts e) ∙ a .ended;
+          after = sym (ap (penEnd pen) f) ∙ a .after;
           next = sym (row-more o e) ∙ a .next;
           passed = omega (arith, a .passed, o .on, k, cells-one (r .token) pen);
         })
@@ -196,10 +163,9 @@ module _
     unfolding cellsFrom penEnd
     ahead-row-end e h =
         let ts = tokensFrom text (r .next) in
-        let b = rw (o .first) at (a .coming) in
-        let f = first-end (r .token) ts e in
-        decoded h (rw f at (b .left)) (sym (ended-end (r .token) ts e) ∙ b .ended) (sym (row-end o e) ∙ a .next)
-        (sym (ap (penEnd pen) f) ∙ b .after)
+        let f = ap firstRow (o .first) ∙ first-end (r .token) ts e in
+        decoded h (rw f at (a .left)) (sym (ap isEnded (o .first) ∙ ended-end (r .token) ts e) ∙ a .ended) (sym (row-end o e) ∙ a .next)
+        (sym (ap (penEnd pen) f) ∙ a .after)
 
   -- over a run of plain codes
   pub ahead-run : {e m : ℕ} {characters′ looks′ : List ℕ}
@@ -210,9 +176,13 @@ module _
   unfolding runCells
   ahead-run {e} o hc hl k =
       let cs = take (e - i) (drop i text) in
+      let ts = tokensFrom text e in
+      let f = ap firstRow (o .first) ∙ first-run ts cs in
       let size : length (map (runCell pen) cs) ≡ e - i = omega (arith, length-map cs (runCell pen), length-take (e - i) (drop i text), length-drop i text, o .within) in
       record {
-        coming = coming-run cs (rw (o .first) at (a .coming)) hc hl (rw size k);
+        left = left-more (runCells pen cs) (cellsFrom pen (firstRow ts)) (rw (f, run-from pen cs (firstRow ts)) at (a .left)) hc hl (rw size k);
+        ended = sym (ap isEnded (o .first) ∙ ended-run ts cs) ∙ a .ended;
+        after = sym (ap (penEnd pen) f ∙ run-end pen cs (firstRow ts)) ∙ a .after;
         next = sym (o .row) ∙ a .next;
         passed = omega (arith, a .passed, o .on, k);
       }
@@ -222,6 +192,7 @@ module _
       → Decoded text start before characters₀ looks₀ characters looks (record { cells = n; ended = false; next = i; pen = pen })
   unfolding cellsFrom penEnd
   ahead-text-end h e =
-      let b = rw (tokens-end text i h) at (a .coming) in
-      decoded e (rw first-none at (b .left)) (sym ended-none ∙ b .ended) (sym (row-over text i h) ∙ a .next)
-      (sym (ap (penEnd pen) first-none) ∙ b .after)
+      let t = tokens-end text i h in
+      let f = ap firstRow t ∙ first-none in
+      decoded e (rw f at (a .left)) (sym (ap isEnded t ∙ ended-none) ∙ a .ended) (sym (row-over text i h) ∙ a .next)
+      (sym (ap (penEnd pen) f) ∙ a .after)

@@ -2,17 +2,17 @@
 -- Assumes nothing.
 use Prim.Native.Nat.{ℕ}
 use mathlib.Core.Path.{_≡_, refl, sym, ap, _∙_}
-use mathlib.Core.Bool.{Bool, true, false, cond, not, _&&_, _||_}
+use mathlib.Core.Bool.{Bool, true, false, cond, not, _&&_, _||_, and-true}
 use mathlib.Core.List.{List, [], _∷_, _++_}
 use lib.Dec.{eqb}
-use borrow.Author.Tests.{eq-eqb, eqb-true}
+use borrow.Author.Tests.{eq-eqb, eqb-true, not-true, not-false}
 use Rattle.meaning.specs.declared.Look.{Look}
 use Rattle.meaning.specs.Lists.{all}
 use Rattle.meaning.specs.Looks.{unpack, shared, free, blend}
 use Rattle.meaning.specs.Cells.{Cell, isBlank}
 use Rattle.meaning.specs.Spans.{fits, foregroundOf, lookOf, uniform, spansFrom, spans}
-use Rattle.meaning.proofs.Logic.{by-test, false-not-true, and-true, or-true-right}
-use Rattle.meaning.proofs.ListLaws.{All, all-cons, test-nil, test-split}
+use Rattle.meaning.proofs.Logic.{by-test, false-not-true, and-parts, and-true as both-true, or-true-right}
+use Rattle.meaning.proofs.ListLaws.{All, all-cons, all-end, test-nil, test-split}
 use Rattle.meaning.proofs.ListLaws.All.{nil, cons}
 use Rattle.meaning.proofs.LookLaws.{unpacked-white}
 use Rattle.meaning.proofs.Fitting.{Fits, Blank, all-say, all-fit, refit-blank, one-uniform, look-shared, look-free}
@@ -40,17 +40,6 @@ foreground-end (b ∷ cs) c =
     (λ e. rw (foreground-blank b (cs ++ (c ∷ [])) e, foreground-blank b cs e, all-cons isBlank b cs, e) (foreground-end cs c))
     (λ e. rw (foreground-here b (cs ++ (c ∷ [])) e, foreground-here b cs e, all-cons isBlank b cs, e))
 
-blanks-end : (cs : List Cell) (c : Cell) → all isBlank (cs ++ (c ∷ [])) ≡ (all isBlank cs && isBlank c)
-blanks-end [] c = all-cons isBlank c [] ∙ rw (test-nil isBlank) (and-all (isBlank c))
-  where
-    and-all : (b : Bool) → (b && true) ≡ b
-    and-all true = refl
-    and-all false = refl
-blanks-end (b ∷ cs) c =
-    by-test (isBlank b)
-    (λ e. rw (all-cons isBlank b (cs ++ (c ∷ [])), all-cons isBlank b cs, e) (blanks-end cs c))
-    (λ e. rw (all-cons isBlank b (cs ++ (c ∷ [])), all-cons isBlank b cs, e))
-
 -- what is kept tells the foreground of cells
 pub record IsForeground (fore : Foreground) (cs : List Cell) : Type 0 where
   pub blanks : fore .blanks ≡ all isBlank cs
@@ -61,37 +50,26 @@ unfolding noForeground foregroundOf
 foreground-none = record { blanks = sym (test-nil isBlank); look = unpacked-white }
 
 -- one cell more settles it, or leaves it
-module _ (fore : Foreground) (cs : List Cell) (p n : ℕ) (t : IsForeground fore cs) where
-  kept-end : (all isBlank cs && not (isBlank (packedCell p n))) ≡ false → all isBlank (cs ++ (packedCell p n ∷ [])) ≡ all isBlank cs
-  kept-end e = blanks-end cs (packedCell p n) ∙ kept (all isBlank cs) (isBlank (packedCell p n)) e
-    where
-      kept : (a b : Bool) → (a && not b) ≡ false → (a && b) ≡ a
-      kept true true e = refl
-      kept true false e = sym e
-      kept false b e = refl
-
-  settled-end : (all isBlank cs && not (isBlank (packedCell p n))) ≡ true → all isBlank (cs ++ (packedCell p n ∷ [])) ≡ false
-  settled-end e = blanks-end cs (packedCell p n) ∙ settled (all isBlank cs) (isBlank (packedCell p n)) e
-    where
-      settled : (a b : Bool) → (a && not b) ≡ true → (a && b) ≡ false
-      settled true true e = sym e
-      settled true false e = refl
-      settled false b e = refl
-
-  foreground-more : IsForeground (foregroundWith fore p n) (cs ++ (packedCell p n ∷ []))
-  unfolding foregroundWith
-  foreground-more =
-      let test = all isBlank cs && not (isBlank (packedCell p n)) in
-      let now : (fore .blanks && not (isBlank (packedCell p n))) ≡ test = ap (λ (b : Bool). b && not (isBlank (packedCell p n))) (t .blanks) in
-      let look = foreground-end cs (packedCell p n) in
-      by-test test
-      (λ e. rw (now ∙ e) (record { blanks = sym (settled-end e); look = sym (look ∙ rw e (unfold packedCell in refl)) }))
-      (λ e. rw (now ∙ e) (record { blanks = t .blanks ∙ sym (kept-end e); look = t .look ∙ sym (look ∙ rw e) }))
+foreground-more : (fore : Foreground) (cs : List Cell) (p n : ℕ) → IsForeground fore cs → IsForeground (foregroundWith fore p n) (cs ++ (packedCell p n ∷ []))
+unfolding foregroundWith
+foreground-more fore cs p n t =
+    let c = packedCell p n in
+    let now : (fore .blanks && not (isBlank c)) ≡ (all isBlank cs && not (isBlank c)) = ap (λ (b : Bool). b && not (isBlank c)) (t .blanks) in
+    let blanks = all-end isBlank cs c in
+    let look = foreground-end cs c in
+    by-test (all isBlank cs && not (isBlank c))
+    (λ e.
+    let other = not-true (isBlank c) (and-parts (all isBlank cs) (not (isBlank c)) e .1) in
+    rw (now ∙ e) (record { blanks = sym (blanks ∙ rw other); look = sym (look ∙ rw e (unfold packedCell in refl)) }))
+    (λ e. rw (now ∙ e) (record { blanks = t .blanks ∙ sym (blanks ∙ kept (isBlank c) (all isBlank cs) e); look = t .look ∙ sym (look ∙ rw e) }))
+  where
+    kept : (b a : Bool) → (a && not b) ≡ false → (b && a) ≡ a
+    kept true a e = refl
+    kept false true e = sym e
+    kept false false e = refl
 
 all-last : {A : Type 0} (p : A → Bool) (xs : List A) (x : A) → all p xs ≡ true → all p (xs ++ (x ∷ [])) ≡ p x
-unfolding all
-all-last p [] x e = by-test (p x) (λ t. rw (t, all)) (λ f. rw (f, all))
-all-last p (y ∷ xs) x e = let s = test-split p y xs e in rw (s .0, all) (all-last p xs x (s .1))
+all-last p xs x e = all-end p xs x ∙ rw e (and-true (p x))
 
 all-blank : (cs : List Cell) → all isBlank cs ≡ true → All Blank cs
 all-blank [] e = nil
@@ -182,11 +160,7 @@ foreground-shared l (b ∷ cs) (cons f h) e =
 -- where a test for a settled foreground of another look fails
 pub quiet-test : (blanks : Bool) (n m : ℕ) → (blanks || not (eqb n m)) ≡ false → (blanks ≡ false) × (n ≡ m)
 quiet-test true n m e = absurd (false-not-true (sym e))
-quiet-test false n m e = (refl, eqb-true n m (not-not (eqb n m) e))
-  where
-    not-not : (b : Bool) → not b ≡ false → b ≡ true
-    not-not true e = refl
-    not-not false e = sym e
+quiet-test false n m e = (refl, eqb-true n m (not-false (eqb n m) e))
 
 -- a cell of the look that the foreground came from joins, and the foreground stays
 module _ {whole : List Cell} {b : Cell} {cs rest : List Cell} {fore : Foreground} (g : Grown whole b cs rest fore) (k : fore .blanks ≡ false) (p n : ℕ) (e : n ≡ fore .look) where
@@ -199,7 +173,7 @@ module _ {whole : List Cell} {b : Cell} {cs rest : List Cell} {fore : Foreground
       let s : shared (unpack n) ≡ shared (b .look) =
       ap shared (like ∙ g .told .look) ∙ foreground-shared l (b ∷ cs) (all-say l (b ∷ cs) (g .alike)) (sym (g .told .blanks) ∙ k) ∙ look-shared b cs in
       joins-by (b .look) fore (packedCell p n) false k
-      ∙ and-true _ _ (eq-eqb _ _ (ap shared looks ∙ s)) (or-true-right (isBlank (packedCell p n)) _ (eq-eqb _ _ (ap free (looks ∙ like))))
+      ∙ both-true _ _ (eq-eqb _ _ (ap shared looks ∙ s)) (or-true-right (isBlank (packedCell p n)) _ (eq-eqb _ _ (ap free (looks ∙ like))))
 
   pub quiet-stays : foregroundWith fore p n ≡ fore
   unfolding foregroundWith

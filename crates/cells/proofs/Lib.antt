@@ -2,7 +2,6 @@ pub mod Arrays
 pub mod Trimming
 pub mod Growing
 pub mod Spanning
-pub mod Exact
 pub mod Storing
 pub mod Decoding
 pub mod ReadBack

@@ -10,9 +10,9 @@ use meaning::Pen;
 use meaning::Token;
 
 // The character of a blank cell: 20h, and every control.
-pub const BLANK: u16 = 32;
+pub(crate) const BLANK: u16 = 32;
 
-pub struct Drawn {
+pub(crate) struct Drawn {
     pub character: u16,
     pub look: Look,
 }
@@ -45,7 +45,7 @@ fn control_next(c: u8, l: Look) -> Look
     }
 }
 
-pub fn cell_of(token: Token, pen: Pen) -> Drawn
+pub(crate) fn cell_of(token: Token, pen: Pen) -> Drawn
     ensures { λ r. ⌜ (r .character ≡ cellOf token pen .character) × (r .look ≡ cellOf token pen .look) ⌝ }
 {
     let look = pen.look;
@@ -66,7 +66,7 @@ pub fn cell_of(token: Token, pen: Pen) -> Drawn
     }
 }
 
-pub fn pen_after(token: Token, pen: Pen) -> Pen
+pub(crate) fn pen_after(token: Token, pen: Pen) -> Pen
     ensures { λ r. ⌜ r ≡ penAfter token pen ⌝ }
 {
     match token {
@@ -81,7 +81,7 @@ pub fn pen_after(token: Token, pen: Pen) -> Pen
 }
 
 // The pen at the start of the row that starts at a position.
-pub fn row_start(text: &[u8], start: usize, pen: Pen) -> Pen
+pub(crate) fn row_start(text: &[u8], start: usize, pen: Pen) -> Pen
     ensures { λ r. ⌜ r ≡ rowStart (firstRow (tokens (drop start (now (text .entry))))) pen ⌝ }
 {
     Pen::new(pen.look.double)

@@ -10,19 +10,19 @@ use meaning::Look;
 
 // What a span's cells tell of its foreground: whether they are only blanks so far, and the packed look of the first that is
 // none.
-pub struct Foreground {
+pub(crate) struct Foreground {
     pub blanks: bool,
     pub look: u16,
 }
 
-pub fn is_blank(character: u16, look: u16) -> bool
+pub(crate) fn is_blank(character: u16, look: u16) -> bool
     ensures { λ r. ⌜ r ≡ isBlank (packedCell character look) ⌝ }
 {
     character == BLANK
 }
 
 // Blanks only count as white.
-pub fn no_foreground() -> Foreground
+pub(crate) fn no_foreground() -> Foreground
     ensures { λ r. ⌜ r ≡ noForeground ⌝ }
 {
     Foreground {
@@ -32,7 +32,7 @@ pub fn no_foreground() -> Foreground
 }
 
 // A blank joins whatever its foreground, and every foreground joins where there are only blanks.
-pub fn is_joining(first: u16, fore: Foreground, character: u16, look: u16) -> bool
+pub(crate) fn is_joining(first: u16, fore: Foreground, character: u16, look: u16) -> bool
     ensures { λ r. ⌜ r ≡ joins (unpack first) fore (packedCell character look) ⌝ }
 {
     (Look::packed_shared(look) == Look::packed_shared(first))
@@ -41,7 +41,7 @@ pub fn is_joining(first: u16, fore: Foreground, character: u16, look: u16) -> bo
 }
 
 // The foreground with one more cell.
-pub fn foreground_with(fore: Foreground, character: u16, look: u16) -> Foreground
+pub(crate) fn foreground_with(fore: Foreground, character: u16, look: u16) -> Foreground
     ensures { λ r. ⌜ r ≡ foregroundWith fore character look ⌝ }
 {
     if fore.blanks & !is_blank(character, look) {
@@ -55,7 +55,7 @@ pub fn foreground_with(fore: Foreground, character: u16, look: u16) -> Foregroun
 }
 
 // The packed look of a span, by that of its first cell and that of its foreground.
-pub fn span_look(first: u16, fore: u16) -> u16
+pub(crate) fn span_look(first: u16, fore: u16) -> u16
     ensures { λ r. ⌜ r ≡ pack (blend (unpack first) (unpack fore)) ⌝ }
 {
     let l = Look::unpack(first);

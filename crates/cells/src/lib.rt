@@ -4,12 +4,13 @@ ghost use mathlib.Core.Path.{_≡_};
 ghost use mathlib.Core.List.{map};
 ghost use Prim.Native.Nat.{_+_, _-_, _<_, _≤_, min};
 ghost use lib.ListN.{length, set, replicate};
+ghost use Rattle.meaning.specs.Lists.{takeWhile};
 ghost use Rattle.meaning.specs.Looks.{pack};
-ghost use Rattle.meaning.specs.Cells.{cellsOf, isBlankOnBlack, trimFront, trimBack};
+ghost use Rattle.meaning.specs.Cells.{cellsOf, isBlankOnBlack, trimBack};
 ghost use Rattle.output.specs.Output.{stored};
 ghost use Rattle.cells.specs.Arrays.{character, packedLook, packedCell, cellsAt, cut};
 ghost use Rattle.cells.specs.Decoded.{runCells, Decoded};
-ghost use Rattle.cells.specs.Ranges.{cellsTo, shownRange, spanAt, FirstSpan};
+ghost use Rattle.cells.specs.Ranges.{cellsTo, shownRange, spanAt};
 use meaning::Look;
 use meaning::Pen;
 use meaning::Token;
@@ -166,7 +167,7 @@ fn is_blank_on_black(character: u16, look: u16) -> bool
 // The first of n cells that is no blank on black, or n.
 fn first_shown(characters: &[u16], looks: &[u16], n: usize) -> usize
     requires { ⌜ (n ≤ length (now characters)) × (n ≤ length (now looks)) ⌝ }
-    ensures { λ r. ⌜ (r ≤ n) × (cellsTo (now (characters .entry)) (now (looks .entry)) r n ≡ trimFront (cellsAt (now (characters .entry)) (now (looks .entry)) 0 n)) ⌝ }
+    ensures { λ r. ⌜ r ≡ length (takeWhile isBlankOnBlack (cellsAt (now (characters .entry)) (now (looks .entry)) 0 n)) ⌝ }
 {
     let mut i = 0;
     while i < n {
@@ -181,7 +182,7 @@ fn first_shown(characters: &[u16], looks: &[u16], n: usize) -> usize
 // The index after the last of the cells from start up to n that is no blank on black, or start.
 fn end_shown(characters: &[u16], looks: &[u16], start: usize, n: usize) -> usize
     requires { ⌜ (start ≤ n) × (n ≤ length (now characters)) × (n ≤ length (now looks)) ⌝ }
-    ensures { λ r. ⌜ (start ≤ r) × (r ≤ n) × (cellsTo (now (characters .entry)) (now (looks .entry)) start r ≡ trimBack (cellsTo (now (characters .entry)) (now (looks .entry)) start n)) ⌝ }
+    ensures { λ r. ⌜ r ≡ start + length (trimBack (cellsTo (now (characters .entry)) (now (looks .entry)) start n)) ⌝ }
 {
     let mut end = n;
     while start < end {
@@ -214,7 +215,7 @@ pub fn shown_range(characters: &[u16], looks: &[u16], n: usize) -> Shown
 // A cell of the look that the foreground came from joins and changes nothing; most are such.
 fn span_from(characters: &[u16], looks: &[u16], start: usize, end: usize) -> SpanRead
     requires { ⌜ (start < end) × (end ≤ length (now characters)) × (end ≤ length (now looks)) ⌝ }
-    ensures { λ r. ⌜ FirstSpan (now (characters .entry)) (now (looks .entry)) start end r ⌝ }
+    ensures { λ r. ⌜ r ≡ spanAt start (cellsTo (now (characters .entry)) (now (looks .entry)) start end) ⌝ }
 {
     let first = looks[start];
     let mut fore = joining::foreground_with(joining::no_foreground(), characters[start], first);

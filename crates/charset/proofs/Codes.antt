@@ -3,9 +3,9 @@
 use Prim.Native.Nat.{ℕ, zero, suc, _+_, _*_, _-_, _≤_, _<_}
 use native.Mathlib.Omega.{arith}
 use mathlib.Core.Path.{_≡_, refl, sym, _∙_}
-use mathlib.Core.Bool.{Bool, true, false, cond, not, _&&_, and-eq-true-iff}
+use mathlib.Core.Bool.{true, false, cond, not, _&&_, and-eq-true-iff}
 use lib.Dec.{ltb, leb, eqb}
-use lib.ListN.{getD, drop, List·getD-eq-default}
+use lib.ListN.{getD, drop}
 use borrow.Author.Tests.{lt-ltb, le-ltb, le-leb, ne-eqb, eqb-true, eqb-false, leb-true, leb-false, ltb-false, not-true}
 use Rattle.meaning.specs.declared.Token.the-variants.{Character, Control, Unlisted}
 use Rattle.meaning.specs.Tables.{latinTable, composedTable}
@@ -104,7 +104,3 @@ unfolding composed
 composed-at zero l h k = absurd (omega arith)
 composed-at (suc a) zero h k = absurd (omega arith)
 composed-at (suc a) (suc l) h k = let e : 52 * (suc a - 1) + (suc l - 1) ≡ 52 * a + l = omega arith in rw e
-
-pub composed-beyond : (a l : ℕ) → 0 < a → 0 < l → 676 ≤ 52 * (a - 1) + (l - 1) → composed a l ≡ 0
-unfolding composedTable
-composed-beyond a l h k b = composed-at a l h k ∙ List·getD-eq-default composedTable 0 b

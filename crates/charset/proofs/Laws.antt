@@ -7,22 +7,22 @@ use native.Mathlib.Numerals.{add-one}
 use mathlib.Core.Path.{_≡_, refl, ap, _∙_}
 use mathlib.Core.Bool.{true, false, cond}
 use mathlib.Core.List.{List, [], _∷_, map, _++_}
-use mathlib.Core.Logic.{_⊎_, inl, inr}
 use lib.Dec.{ltb}
-use lib.ListN.{length, getD, take, drop, drop-of-length-le}
+use lib.ListN.{length, getD, take, drop, length-drop, drop-of-length-le}
 use lib.Seq.{drop-cons, drop-drop}
 use borrow.Author.Tests.{lt-ltb, lt-leb, ltb-true, ltb-false}
 use Rattle.meaning.specs.declared.Token.{Token}
 use Rattle.meaning.specs.declared.Token.the-variants.{Character}
 use Rattle.meaning.specs.Characters.{accent}
 use Rattle.meaning.specs.Codes.{isAccent, codeToken, pairToken, tokens, isRowEnd}
+use Rattle.meaning.specs.Lists.{takeWhile}
 use Rattle.meaning.proofs.Logic.{by-test}
+use Rattle.meaning.proofs.ListLaws.{while-on, while-off, take-while, while-short, while-more, while-stops, while-ends}
 use Rattle.meaning.proofs.Tokens.{tokens-pair as first-pair, tokens-code}
 use Rattle.charset.specs.declared.Reading.{Reading}
 use Rattle.charset.specs.Reading.{isPairAt, readingAt, tokenAt, nextAt, afterRowAt}
-use Rattle.charset.specs.Plain.{isPlain, plainRun, plainEnd}
+use Rattle.charset.specs.Plain.{isPlain, plainEnd}
 use Rattle.charset.proofs.Codes.{plain-range, plain-token}
-use Rattle.charset.proofs.Runs.{run-goes-on, run-ends, run-within, end-here, end-later, end-nowhere}
 use Rattle.charset.proofs.Positions.{by-reading, next-on, row-step}
 
 -- a code that is no accent, or has none after it
@@ -43,7 +43,7 @@ module _ (s : List ℕ) (i : ℕ) where
   tokens-end h = rw drop-of-length-le
 
   -- an accent with a code after it
-  pub tokens-pair :
+  tokens-pair :
       i + 1 < length s → isAccent (getD s i 0) ≡ true
       → tokens (drop i s) ≡ pairToken (getD s i 0) (getD s (i + 1) 0) ∷ tokens (drop (i + 2) s)
   tokens-pair h a =
@@ -52,13 +52,13 @@ module _ (s : List ℕ) (i : ℕ) where
       rw (drop-next s i here, drop-next s (i + 1) h, two) (first-pair (getD s i 0) (getD s (i + 1) 0) (drop (i + 2) s) a)
 
   -- any other code, and an accent at the end
-  pub tokens-single :
-      i < length s → isAccent (getD s i 0) ≡ false ⊎ (i + 1 ≡ length s)
-      → tokens (drop i s) ≡ codeToken (getD s i 0) ∷ tokens (drop (i + 1) s)
-  tokens-single h (inl a) = rw (drop-next s i h) (first-single (getD s i 0) (drop (i + 1) s) a)
-  tokens-single h (inr e) =
-      let end : length s ≤ i + 1 = omega arith in
-      rw (drop-next s i h) (first-last (getD s i 0) (drop (i + 1) s) (drop-of-length-le s end))
+  tokens-single : i < length s → isPairAt s i ≡ false → tokens (drop i s) ≡ codeToken (getD s i 0) ∷ tokens (drop (i + 1) s)
+  unfolding isPairAt
+  tokens-single h p =
+      rw (drop-next s i h)
+      (by-test (isAccent (getD s i 0))
+      (λ a. first-last (getD s i 0) (drop (i + 1) s) (drop-of-length-le s (ltb-false (i + 1) (length s) (rw a at p))))
+      (λ a. first-single (getD s i 0) (drop (i + 1) s) a))
 
 -- What the reading r at a position i of a text s tells: the first of the tokens from i on, that the others are those from
 -- the reading's next position on, where that lies, and where the row ends.
@@ -73,7 +73,7 @@ module _ (s : List ℕ) (i : ℕ) (h : i < length s) where
   first-at =
       by-reading s i (λ (r : Reading). tokens (drop i s) ≡ r .token ∷ tokens (drop (r .next) s)) h
       (λ a k. tokens-pair s i k a)
-      (λ w. tokens-single s i h w)
+      (λ p. tokens-single s i h p)
 
   -- where the text has a code at i
   pub read-at : ReadOn s i (readingAt s i)
@@ -95,29 +95,16 @@ unfolding readingAt isPairAt
 low-reading s i h l = rw (lt-ltb i (length s) h, low-single (getD s i 0) l)
 
 -- the tokens of a run are the characters of its codes
-tokens-run : (s : List ℕ) → tokens s ≡ map Character (plainRun s) ++ tokens (drop (length (plainRun s)) s)
-unfolding plainRun
+tokens-run : (s : List ℕ) → tokens s ≡ map Character (takeWhile isPlain s) ++ tokens (drop (length (takeWhile isPlain s)) s)
+unfolding takeWhile
 tokens-run [] = refl
 tokens-run (c ∷ cs) =
     by-test (isPlain c)
     (λ p.
     let r = plain-range c p in
-    rw (run-goes-on c cs p, first-single c cs (low-single c (omega (arith, r .1))), plain-token c p)
+    rw (while-on isPlain c cs p, first-single c cs (low-single c (omega (arith, r .1))), plain-token c p)
     (ap (λ ts. Character c ∷ ts) (tokens-run cs)))
-    (λ p. rw (run-ends c cs p))
-
--- the tokens from i on are the run's characters, and those from its end on
-pub run-at : (s : List ℕ) (i : ℕ) → tokens (drop i s) ≡ map Character (plainRun (drop i s)) ++ tokens (drop (plainEnd s i) s)
-unfolding plainEnd
-run-at s i = rw drop-drop at (tokens-run (drop i s))
-
-take-run : (s : List ℕ) → take (length (plainRun s)) s ≡ plainRun s
-unfolding plainRun
-take-run [] = refl
-take-run (c ∷ cs) =
-    by-test (isPlain c)
-    (λ p. rw (run-goes-on c cs p) (ap (λ (xs : List ℕ). c ∷ xs) (take-run cs)))
-    (λ p. rw (run-ends c cs p))
+    (λ p. rw (while-off isPlain c cs p))
 
 -- a run is within its row
 row-plain : (s : List ℕ) (i : ℕ) → i < length s → isPlain (getD s i 0) ≡ true → afterRowAt s i ≡ afterRowAt s (i + 1)
@@ -128,7 +115,7 @@ row-plain s i h p =
     (low-reading s i h (omega (arith, plain-range (getD s i 0) p .1)))
     ∙ ap (λ (t : Token). cond (isRowEnd t) (i + 1) (afterRowAt s (i + 1))) (plain-token (getD s i 0) p)
 
-row-passes : (k : ℕ) (s : List ℕ) (i : ℕ) → length (plainRun (drop i s)) ≡ k → afterRowAt s i ≡ afterRowAt s (i + k)
+row-passes : (k : ℕ) (s : List ℕ) (i : ℕ) → length (takeWhile isPlain (drop i s)) ≡ k → afterRowAt s i ≡ afterRowAt s (i + k)
 row-passes zero s i e = rw add-zero
 row-passes (suc k) s i e =
     by-test (ltb i (length s))
@@ -136,13 +123,9 @@ row-passes (suc k) s i e =
     let h = ltb-true i (length s) l in
     let one : i + suc k ≡ i + 1 + k = omega arith in
     by-test (isPlain (getD s i 0))
-    (λ p. rw one (row-plain s i h p ∙ row-passes k s (i + 1) (omega (arith, end-later s i h p))))
-    (λ p. absurd (omega (arith, end-here s i h p))))
-    (λ l. absurd (omega (arith, end-nowhere s i (ltb-false i (length s) l))))
-
-pub run-row : (s : List ℕ) (i : ℕ) → afterRowAt s i ≡ afterRowAt s (plainEnd s i)
-unfolding plainEnd
-run-row s i = row-passes (length (plainRun (drop i s))) s i refl
+    (λ p. rw one (row-plain s i h p ∙ row-passes k s (i + 1) (omega (arith, while-more isPlain s i 0 h p))))
+    (λ p. absurd (omega (arith, while-stops isPlain s i 0 h p))))
+    (λ l. absurd (omega (arith, while-ends isPlain s i (ltb-false i (length s) l))))
 
 -- the codes of a text s from i up to e are a run: the tokens from i on are its characters, and those from e on; the row goes on
 pub record RunOn (s : List ℕ) (i e : ℕ) : Type 0 where
@@ -155,5 +138,13 @@ pub record RunOn (s : List ℕ) (i e : ℕ) : Type 0 where
 pub run-on : {s : List ℕ} {i e : ℕ} → e ≡ plainEnd s i → i ≤ length s → RunOn s i e
 unfolding plainEnd
 run-on {s} {i} p h =
-    let size : plainEnd s i - i ≡ length (plainRun (drop i s)) = omega arith in
-    rw p (record { first = rw (size, take-run (drop i s)) (run-at s i); on = omega arith; within = run-within s i h; row = run-row s i })
+    let size : plainEnd s i - i ≡ length (takeWhile isPlain (drop i s)) = omega arith in
+    rw p (record { first = rw (size, take-while isPlain (drop i s)) (rw drop-drop at (tokens-run (drop i s))); on = omega arith; within = omega (arith, rw length-drop at (while-short isPlain (drop i s))); row = row-passes (length (takeWhile isPlain (drop i s))) s i refl })
+
+-- a token, and the run after it
+pub record TurnOn (s : List ℕ) (i : ℕ) (r : Reading) (e : ℕ) : Type 0 where
+  pub read : ReadOn s i r
+  pub run : RunOn s (r .next) e
+
+pub turn-on : {s : List ℕ} {i e : ℕ} {r : Reading} → r ≡ readingAt s i → i < length s → e ≡ plainEnd s (r .next) → TurnOn s i r e
+turn-on q h p = let o = read-on q h in record { read = o; run = run-on p (o .within) }

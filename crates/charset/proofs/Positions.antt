@@ -3,8 +3,7 @@
 use Prim.Native.Nat.{ℕ, zero, suc, _+_, _-_, _≤_, _<_}
 use native.Mathlib.Omega.{arith}
 use mathlib.Core.Path.{_≡_, refl, sym, ap, subst, _∙_}
-use mathlib.Core.Bool.{Bool, true, false, cond, _&&_, and-eq-true-iff}
-use mathlib.Core.Logic.{_⊎_, inl, inr, ⊎-map}
+use mathlib.Core.Bool.{true, false, cond, and-eq-true-iff}
 use mathlib.Core.List.{List}
 use lib.Dec.{ltb}
 use lib.ListN.{length, getD}
@@ -15,22 +14,12 @@ use Rattle.meaning.proofs.Logic.{by-test}
 use Rattle.charset.specs.declared.Reading.{Reading}
 use Rattle.charset.specs.Reading.{isPairAt, readingAt, tokenAt, nextAt, afterRowIn, afterRowAt}
 
--- an accent and a code after it, or not
-one-false : (a b : Bool) → (a && b) ≡ false → a ≡ false ⊎ (b ≡ false)
-one-false true b e = inr e
-one-false false b e = inl refl
-
 module _ (s : List ℕ) (i : ℕ) where
   pair-parts : isPairAt s i ≡ true → (isAccent (getD s i 0) ≡ true) × (i + 1 < length s)
   unfolding isPairAt
   pair-parts p =
       let both = and-eq-true-iff (isAccent (getD s i 0)) (ltb (i + 1) (length s)) .0 p in
       (both .0, ltb-true (i + 1) (length s) (both .1))
-
-  single-parts : isPairAt s i ≡ false → i < length s → isAccent (getD s i 0) ≡ false ⊎ (i + 1 ≡ length s)
-  unfolding isPairAt
-  single-parts p h =
-      ⊎-map (λ a. a) (λ e. omega (arith, ltb-false (i + 1) (length s) e)) (one-false (isAccent (getD s i 0)) (ltb (i + 1) (length s)) p)
 
   read-pair : i < length s → isPairAt s i ≡ true → readingAt s i ≡ record { token = pairToken (getD s i 0) (getD s (i + 1) 0); next = i + 2 }
   unfolding readingAt
@@ -43,12 +32,12 @@ module _ (s : List ℕ) (i : ℕ) where
   -- what holds of the reading in both cases
   pub by-reading : (P : Reading → Type 0) → i < length s
       → (isAccent (getD s i 0) ≡ true → i + 1 < length s → P (record { token = pairToken (getD s i 0) (getD s (i + 1) 0); next = i + 2 }))
-      → (isAccent (getD s i 0) ≡ false ⊎ (i + 1 ≡ length s) → P (record { token = codeToken (getD s i 0); next = i + 1 }))
+      → (isPairAt s i ≡ false → P (record { token = codeToken (getD s i 0); next = i + 1 }))
       → P (readingAt s i)
   by-reading P h f g =
       by-test (isPairAt s i)
       (λ p. let b = pair-parts p in subst P (sym (read-pair h p)) (f (b .0) (b .1)))
-      (λ p. subst P (sym (read-single h p)) (g (single-parts p h)))
+      (λ p. subst P (sym (read-single h p)) (g p))
 
   pub next-on : i < length s → (i < nextAt s i) × (nextAt s i ≤ length s)
   next-on h =

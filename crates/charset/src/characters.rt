@@ -17,7 +17,7 @@ pub(crate) fn upper(c: u8) -> u16
 }
 
 // The number of an accent, 1 to 13; 0 for any other code.
-pub fn accent(c: u8) -> u8
+pub(crate) fn accent(c: u8) -> u8
     ensures { λ r. ⌜ r ≡ accent c ⌝ }
 {
     if c < 192 {
@@ -32,7 +32,8 @@ pub fn accent(c: u8) -> u8
 
 // The number of a letter, 1 to 52 for A to Z and a to z; 0 for any other code.
 fn letter(c: u8) -> u8
-    ensures { λ r. ⌜ r ≡ letter c ⌝ }
+    ensures number { λ r. ⌜ r ≡ letter c ⌝ }
+    ensures small { λ r. ⌜ r ≤ 52 ⌝ }
 {
     if (65 <= c) & (c <= 90) {
         return c - 64;
@@ -45,6 +46,7 @@ fn letter(c: u8) -> u8
 
 // The single code point of an accent and a letter, each by its number.
 fn composed(a: u8, l: u8) -> u16
+    requires { ⌜ l ≤ 52 ⌝ }
     ensures { λ r. ⌜ r ≡ composed a l ⌝ }
 {
     if a == 0 {
@@ -55,15 +57,11 @@ fn composed(a: u8, l: u8) -> u16
     }
     let row = a as usize - 1;
     let column = l as usize - 1;
-    let place = 52 * row + column;
-    if place < 676 {
-        return composed_table::COMPOSED[place];
-    }
-    0
+    composed_table::entry(row, column)
 }
 
 // The code point of an accent with the letter after it.
-pub fn pair(a: u8, c: u8) -> u16
+pub(crate) fn pair(a: u8, c: u8) -> u16
     ensures { λ r. ⌜ r ≡ composed (accent a) (letter c) ⌝ }
 {
     composed(accent(a), letter(c))

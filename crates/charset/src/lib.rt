@@ -16,7 +16,7 @@ pub struct Reading {
     pub next: usize,
 }
 
-pub fn is_accent(c: u8) -> bool
+fn is_accent(c: u8) -> bool
     ensures { λ r. ⌜ r ≡ isAccent c ⌝ }
 {
     characters::accent(c) != 0
@@ -64,7 +64,7 @@ fn low_token(c: u8) -> Token
     }
 }
 
-pub fn code_token(c: u8) -> Token
+fn code_token(c: u8) -> Token
     ensures { λ r. ⌜ r ≡ codeToken c ⌝ }
 {
     if c < 160 {
@@ -73,7 +73,7 @@ pub fn code_token(c: u8) -> Token
     character_of(characters::upper(c))
 }
 
-pub fn pair_token(a: u8, c: u8) -> Token
+fn pair_token(a: u8, c: u8) -> Token
     ensures { λ r. ⌜ r ≡ pairToken a c ⌝ }
 {
     character_of(characters::pair(a, c))

@@ -1,165 +1,204 @@
 -- The two passes together: what was measured is the document's, and what was written is the document.
 -- Assumes nothing.
-use Prim.Native.Nat.{ℕ, _+_, _≤_, _<_}
-use Prim.Native.String.{String}
+use Prim.Native.Nat.{ℕ, _+_, _≤_, _<_, _^_}
 use native.Mathlib.Omega.{arith}
-use mathlib.Core.Path.{_≡_, refl, sym, ap, subst, _∙_}
-use mathlib.Core.Bool.{Bool, false}
-use mathlib.Core.List.{List, _++_, map, append-assoc}
+use mathlib.Core.Path.{_≡_, refl, sym, ap, _∙_}
+use mathlib.Core.Bool.{Bool, true, false}
+use mathlib.Core.List.{List, [], _++_, map, map-append, append-assoc}
 use lib.Dec.{leb}
 use lib.ListN.{length, replicate, length-append}
 use borrow.Author.Tests.{le-leb, lt-leb, leb-true}
+use Rattle.meaning.specs.declared.Refusal.{Refusal}
 use Rattle.meaning.specs.declared.Counts.{Counts}
 use Rattle.meaning.specs.declared.Answer.{Answer}
 use Rattle.meaning.specs.declared.Format.{Format}
-use Rattle.meaning.specs.Lists.{joinMap, joined, same, bytes}
-use Rattle.meaning.specs.Gsi.{field, rateOf, formatOf, blockCount, fileRule}
-use Rattle.meaning.specs.Sets.{Assembly, Progress, Outcome, finish, walk, outcome}
-use Rattle.meaning.specs.Sets.Outcome.{refused, accepted}
+use Rattle.meaning.specs.Refusals.{noRefusal, isGood}
+use Rattle.meaning.specs.Lists.{joinMap, joined}
+use Rattle.meaning.specs.Gsi.{formatOf, blockCount, fileRule}
 use Rattle.meaning.specs.Looks.{lookCount}
-use Rattle.meaning.specs.Document.{Document, writeParagraph, documentLooks, render, documentSpans, afterParagraphs}
-use Rattle.meaning.specs.Conversion.{paragraphOf, documentOf, refusal, acceptance, answerTo, answer, bufferAfter, output}
+use Rattle.meaning.specs.Sets.{OpenSet}
+use Rattle.meaning.specs.Walk.{Subtitle, Progress, Outcome, finish, walk, setRule, subtitlesFrom, withSubtitles, outcome}
+use Rattle.meaning.specs.Walk.Outcome.{refused, accepted}
+use Rattle.meaning.specs.Document.{Document, Paragraph, writeParagraph, paragraphLooks, documentLooks, render, documentSpans, afterParagraphs}
+use Rattle.meaning.specs.Conversion.{paragraphOf, documentOf, refusedAnswer, acceptedAnswer, answerBy, answerTo, answer, bufferAfter, output}
 use Rattle.meaning.specs.Demands.{Bytes, FewestSpans}
-use Rattle.meaning.proofs.Logic.{by-test, by-number}
-use Rattle.meaning.proofs.Accepted.{Any, any-blocks, accepted-file, rule-kept}
+use Rattle.meaning.proofs.Logic.{by-test}
+use Rattle.meaning.proofs.ListLaws.{Any, any-blocks, join-append}
+use Rattle.meaning.proofs.Gathering.{mapped, finish-mapped, walk-mapped, refused-not, walk-without}
+use Rattle.meaning.proofs.Accepted.{Accepted, accepted-file, rule-kept, walk-was}
 use Rattle.meaning.proofs.Refused.{refused-untouched}
 use Rattle.meaning.proofs.Bounds.{tnb-bound, document-bound, spans-bound}
 use Rattle.meaning.proofs.Demand3.{fewest-spans}
-use Rattle.output.specs.Output.{past, Wrote}
-use Rattle.output.proofs.Laws.{_⨟_, wrote-placed, wrote-as}
+use Rattle.output.specs.Output.{stored, past, Wrote}
+use Rattle.output.proofs.Laws.{stored-append, _⨟_, wrote-length, wrote-placed, wrote-as}
 use Rattle.styles.specs.declared.Marks.{Marks}
 use Rattle.text.specs.declared.Tally.{Tally}
-use Rattle.sets.specs.Assembling.{assemblyOf}
+use Rattle.text.specs.Laid.{Laid, markedWith}
+use Rattle.text.proofs.Laws.{_then_}
 use Rattle.document.specs.Parts.{headOf}
 use Rattle.convert.specs.declared.passes.Pass.{Pass}
-use Rattle.convert.specs.Laid.{AllLaid}
-use Rattle.convert.specs.Passing.{Stands, Checked}
-use Rattle.convert.specs.Telling.{marksOf, measured, Tells, Told}
+use Rattle.convert.specs.Passing.{Page, laid, laySet, anySet, standing}
+use Rattle.convert.specs.Telling.{marksOf, measured, answerOf}
+use Rattle.convert.proofs.Standing.{good-number, bad-number, standing-good, standing-bad}
+use Rattle.convert.proofs.Laying.{laid-none, laid-append, paragraphs-whole}
 use Rattle.convert.proofs.Marking.{looks-right}
-use Rattle.convert.proofs.Stepping.{refused-not}
+
+-- what is laid for subtitles, from a page on
+unfoldable pageOf : Format → Page → List Subtitle → Page
+pageOf f p ss = laid (map (paragraphOf f) ss) p
+
+-- a page that paragraphs can be laid on
+record Sound (p : Page) : Type 0 where
+  room : length (p .out) < 2 ^ 64
+  at : p .tally .at < 2 ^ 64
+  spans : p .tally .spans < 2 ^ 64
+
+module _ (f : Format) (p : Page) (h : Sound p) where
+  alike : (s : OpenSet) (ss : List Subtitle) → isGood (setRule f s) ≡ true → pageOf f p (withSubtitles f s ss) ≡ laySet f s (pageOf f p ss)
+  unfolding pageOf withSubtitles laySet
+  alike s ss e =
+      rw (map-append (paragraphOf f) ss (subtitlesFrom f s), paragraphs-whole f s e)
+      (laid-append (map (paragraphOf f) ss) (map (paragraphOf f) (subtitlesFrom f s)) p (h .room))
+
+  -- a walk that lays, by the one that gathers subtitles
+  walk-laid : (file : List ℕ) (n : ℕ) → walk f (setRule f) (laySet f) p file n ≡ mapped (pageOf f p) (walk f (setRule f) (withSubtitles f) [] file n)
+  unfolding pageOf
+  walk-laid file n =
+      ap (λ (q : Page). walk f (setRule f) (laySet f) q file n) (laid-none p (h .at) (h .spans))
+      ∙ sym (walk-mapped (pageOf f p) f (setRule f) (withSubtitles f) (laySet f) alike [] file n)
+
+-- the page of a pass that stands for a progress
+page-is :
+    (w : Pass) (text out : List ℕ) (marks : List Bool) {q : Progress Page} → standing w text out marks ≡ accepted q
+    → q .gathered ≡ record { out = out; marks = marks; tally = w .tally }
+page-is w text out marks {q} e =
+    by-test (isGood (w .refusal))
+    (λ t. same (sym (standing-good w text out marks t) ∙ e))
+    (λ t. absurd (refused-not (sym (standing-bad w text out marks t) ∙ e)))
+  where
+    same : {a b : Progress Page} → accepted a ≡ accepted b → b .gathered ≡ a .gathered
+    same z = cc
 
 -- the document in three parts: head, paragraphs, tail
 document-parts :
-    {on : List Bool} (f : Format) (p : Progress) → on ≡ marksOf f p
-    → render (documentOf f p) ≡ headOf (f .rate) on ++ (joinMap writeParagraph (map (paragraphOf f) (p .subtitles)) ++ afterParagraphs)
+    {on : List Bool} (f : Format) (ss : List Subtitle) → on ≡ marksOf f ss
+    → render (documentOf f ss) ≡ headOf (f .rate) on ++ (joinMap writeParagraph (map (paragraphOf f) ss) ++ afterParagraphs)
 unfolding render documentOf headOf joined marksOf
-document-parts f p e = rw (looks-right (map (paragraphOf f) (p .subtitles)) e) (sym (simp append-assoc))
+document-parts f ss e = rw (looks-right (map (paragraphOf f) ss) e) (sym (simp append-assoc))
 
-low : (file : List ℕ) → rateOf file ≤ 30
-unfolding rateOf
-low file =
-    by-test (same (field 3 8 file) (bytes "STL25.01"))
-    (λ e. rw (e, rateOf) (omega arith))
-    (λ e. by-test (same (field 3 8 file) (bytes "STL30.01")) (λ f. rw (e, rateOf, f) (omega arith)) (λ f. rw (e, rateOf, f) (omega arith)))
+-- nothing laid yet, with all marks clear
+abbrev blank : List ℕ → Page
+blank out = record { out = out; marks = replicate lookCount false; tally = record { at = 0; spans = 0 } }
 
-pub rate-low : (mode : ℕ) (file : List ℕ) {f : Format} → f ≡ formatOf mode file → f .rate ≤ 30
-unfolding formatOf
-rate-low mode file e = rw e (low file)
-
--- what pass one knows at its end
 module _ (mode : ℕ) (file : List ℕ) where
-  -- the length that was measured is the document's
-  size-right :
-      (p : Progress) → outcome mode file ≡ accepted p → {on : List Bool} {at : ℕ} → on ≡ marksOf (formatOf mode file) p
-      → at ≡ past 0 (length (joinMap writeParagraph (map (paragraphOf (formatOf mode file)) (p .subtitles)))) → measured (formatOf mode file .rate) on at ≡ length (render (documentOf (formatOf mode file) p))
-  unfolding past measured
-  size-right p c {on} e s =
-      let d = ap length (document-parts (formatOf mode file) p e) in
-      let b = document-bound mode file p c in
-      omega (
-        arith,
-        length-append (headOf (formatOf mode file .rate) on) (joinMap writeParagraph (map (paragraphOf (formatOf mode file)) (p .subtitles)) ++ afterParagraphs),
-        length-append (joinMap writeParagraph (map (paragraphOf (formatOf mode file)) (p .subtitles))) afterParagraphs,
-      )
+  -- an accepted file: what was measured is the document's
+  module _ (p : Progress (List Subtitle)) (c : outcome mode file ≡ accepted p) where
+    length-right :
+        measured (formatOf mode file .rate) (marksOf (formatOf mode file) (p .gathered)) (past 0 (length (joinMap writeParagraph (map (paragraphOf (formatOf mode file)) (p .gathered)))))
+        ≡ length (render (documentOf (formatOf mode file) (p .gathered)))
+    unfolding past measured
+    length-right =
+        let body = joinMap writeParagraph (map (paragraphOf (formatOf mode file)) (p .gathered)) in
+        omega (
+          arith,
+          ap length (document-parts (formatOf mode file) (p .gathered) refl),
+          document-bound mode file p c,
+          length-append (headOf (formatOf mode file .rate) (marksOf (formatOf mode file) (p .gathered))) (body ++ afterParagraphs),
+          length-append body afterParagraphs,
+        )
 
-  spans-right : (p : Progress) → outcome mode file ≡ accepted p → {n : ℕ} → n ≡ past 0 (documentSpans (map (paragraphOf (formatOf mode file)) (p .subtitles))) → n ≡ documentSpans (documentOf (formatOf mode file) p .paragraphs)
-  unfolding past documentOf
-  spans-right p c e = omega (arith, spans-bound mode file p c)
+    spans-right :
+        past 0 (length (documentLooks (map (paragraphOf (formatOf mode file)) (p .gathered)))) ≡ documentSpans (documentOf (formatOf mode file) (p .gathered) .paragraphs)
+    unfolding past documentSpans documentOf
+    spans-right = omega (arith, spans-bound mode file p c)
 
-  told-of :
-      (o : Outcome) → outcome mode file ≡ o → {marks : Marks} → marks .on ≡ replicate lookCount false → (buf text out : List ℕ) (n : ℕ) (w : Pass)
-      → Stands (formatOf mode file) buf (record { at = 0; spans = 0; marks = marks }) n text out w o → Told (formatOf mode file) w o
-  unfolding assemblyOf marksOf documentSpans
-  told-of (refused m k) c e buf text out n w a = a
-  told-of (accepted p) c {marks} e buf text out n w a =
-      let l = a .2 .laid in
-      let on : w .tally .marks .on ≡ marksOf (formatOf mode file) p = rw e at (l .marks) in
-      record {
-        good = a .0;
-        counts = sym (ap (λ (x : Assembly). x .counts) (a .2 .assembly));
-        size = size-right p c on (l .wrote .next);
-        spans = spans-right p c (l .spans);
-        marks = on;
-      }
+  answer-right :
+      (room : ℕ) (out : List ℕ) (o : Outcome (List Subtitle)) → outcome mode file ≡ o
+      → answerOf (formatOf mode file) room (mapped (pageOf (formatOf mode file) (blank out)) o) ≡ answerTo (formatOf mode file) room o
+  unfolding answerOf answerTo mapped pageOf laid marksOf
+  answer-right room out (refused r) c = refl
+  answer-right room out (accepted p) c =
+      ap (λ (n : ℕ). answerBy room (p .counts) n (past 0 (length (documentLooks (map (paragraphOf (formatOf mode file)) (p .gathered)))))) (length-right p c)
+      ∙ ap (answerBy room (p .counts) (length (render (documentOf (formatOf mode file) (p .gathered))))) (spans-right p c)
 
--- the answer at the end of pass one
-module _ (f : Format) (room : ℕ) (w : Pass) {r : Answer} where
-  pub told-refused : (w .number ≡ 0 → ⊥) → r ≡ refusal (w .number) (w .place) 0 → (o : Outcome) → Told f w o → r ≡ answerTo f room o
-  unfolding answerTo
-  told-refused z e (refused m k) a = e ∙ rw (a .0, a .1)
-  told-refused z e (accepted p) a = absurd (z (a .good))
-
-  module _ (z : w .number ≡ 0) {needed : ℕ} (l : needed ≡ measured (f .rate) (w .tally .marks .on) (w .tally .at)) where
-    pub told-short : room < needed → r ≡ refusal 16 0 needed → (o : Outcome) → Told f w o → r ≡ answerTo f room o
-    unfolding answerTo
-    told-short h e (refused m k) a = absurd (a .2 (sym (a .0) ∙ z))
-    told-short h e (accepted p) a =
-        let s : needed ≡ length (render (documentOf f p)) = l ∙ a .size in
-        rw (lt-leb (length (render (documentOf f p))) room (omega arith), answerTo) (e ∙ rw s)
-
-    pub told-good :
-        needed ≤ room → ((p : Progress) → w .sets .counts ≡ p .assembly .counts → r ≡ acceptance needed p (w .tally .spans)) → (o : Outcome) → Told f w o
-        → r ≡ answerTo f room o
-    unfolding answerTo
-    told-good h e (refused m k) a = absurd (a .2 (sym (a .0) ∙ z))
-    told-good h e (accepted p) a =
-        let s : needed ≡ length (render (documentOf f p)) = l ∙ a .size in
-        rw (le-leb (length (render (documentOf f p))) room (omega arith), answerTo) (e p (a .counts) ∙ rw (s, a .spans))
-
--- the outcome of a file
-module _ (mode : ℕ) (file : List ℕ) {rule : ℕ} (e : rule ≡ fileRule mode file) where
-  outcome-rule : (rule ≡ 0 → ⊥) → outcome mode file ≡ refused rule 0
-  unfolding outcome
-  outcome-rule z = by-number rule (λ y. absurd (z y)) (λ m y. rw (sym e ∙ y, outcome, y))
-
-  outcome-walk : rule ≡ 0 → {f : Format} {n : ℕ} → f ≡ formatOf mode file → n ≡ blockCount file → outcome mode file ≡ finish n (walk f file n)
-  unfolding outcome
-  outcome-walk z a b = rw (a, b, sym e ∙ z, outcome)
+  marks-right :
+      (p : Progress (List Subtitle)) (text out out′ : List ℕ) (on : List Bool) (w : Pass)
+      → standing w text out′ on ≡ mapped (pageOf (formatOf mode file) (blank out)) (accepted p) → on ≡ marksOf (formatOf mode file) (p .gathered)
+  unfolding mapped pageOf laid marksOf
+  marks-right p text out out′ on w e = sym (ap (λ (q : Page). q .marks) (page-is w text out′ on e))
 
   -- pass one
   abbrev Known : ℕ → Answer → Marks → Type 0
-  Known room a marks = (a ≡ answer mode file room) × ((p : Progress) → outcome mode file ≡ accepted p → marks .on ≡ marksOf (formatOf mode file) p)
+  Known room a marks =
+      (a ≡ answer mode file room)
+      × ((p : Progress (List Subtitle)) → outcome mode file ≡ accepted p → marks .on ≡ marksOf (formatOf mode file) (p .gathered))
 
-  pub known-rule : (room : ℕ) {a : Answer} {marks : Marks} → (rule ≡ 0 → ⊥) → a ≡ refusal rule 0 0 → Known room a marks
-  unfolding answer answerTo
-  known-rule room z d = let o = outcome-rule z in (d ∙ rw o, λ p c. absurd (refused-not (sym o ∙ c)))
+  module _ {rule : Refusal} (e : rule ≡ fileRule mode file) where
+    pub known-rule : (room : ℕ) {a : Answer} (marks : Marks) → (rule .number ≡ 0 → ⊥) → a ≡ refusedAnswer rule 0 → Known room a marks
+    unfolding outcome answer answerTo
+    known-rule room marks z d =
+        let b : isGood (fileRule mode file) ≡ false = rw (sym e) (bad-number rule z) in
+        let o : outcome mode file ≡ refused rule = rw (b, outcome) (ap refused (sym e)) in
+        (d ∙ rw o, λ p c. absurd (refused-not (sym o ∙ c)))
 
-  pub few-blocks : rule ≡ 0 → {n : ℕ} → n ≡ blockCount file → n ≤ 99999
-  few-blocks z a = omega (arith, tnb-bound mode file (sym e ∙ z))
+    module _ (z : rule .number ≡ 0) where
+      good : isGood (fileRule mode file) ≡ true
+      good = rw (sym e) (good-number rule z)
 
-  pub known-walk :
-      (room : ℕ) {a : Answer} {f : Format} {n : ℕ} {marks : Marks} {buf text out : List ℕ} {w : Pass} → rule ≡ 0 → f ≡ formatOf mode file → n ≡ blockCount file
-      → marks .on ≡ replicate lookCount false → Checked f buf (record { at = 0; spans = 0; marks = marks }) n text out w (finish n (walk f file n))
-      → ((o : Outcome) → Told f w o → a ≡ answerTo f room o) → Known room a (w .tally .marks)
-  unfolding answer
-  known-walk room {a} {f} {n} {marks} {buf} {text} {out} {w} z g b m c d =
-      let o = outcome-walk z g b in
-      let t : Tally = record { at = 0; spans = 0; marks = marks } in
-      let s : (x : Outcome) → outcome mode file ≡ x → Told (formatOf mode file) w x =
-      λ x q. told-of mode file x q m buf text out n w (subst (λ (v : Format). Stands v buf t n text out w x) g (subst (Stands f buf t n text out w) (sym o ∙ q) (c .stands))) in
-      ((rw g at d) (outcome mode file) (s (outcome mode file) refl), λ p q. s (accepted p) q .marks)
+      pub few-blocks : {n : ℕ} → n ≡ blockCount file → n ≤ 99999
+      few-blocks a = omega (arith, tnb-bound mode file good)
+
+      pub known-walk :
+          (room : ℕ) {a : Answer} {f : Format} {n : ℕ} (w : Pass) (text out out′ : List ℕ) {on : List Bool} → length out < 2 ^ 64 → f ≡ formatOf mode file
+          → n ≡ blockCount file → standing w text out′ on ≡ finish n (walk f (setRule f) (laySet f) (blank out) file n)
+          → a ≡ answerOf f room (standing w text out′ on) → Known room a (record { on = on })
+      unfolding outcome answer
+      known-walk room {a} {f} {n} w text out out′ {on} l g b s d =
+          let h : Sound (blank out) = record { room = l; at = omega arith; spans = omega arith } in
+          let x : standing w text out′ on ≡ mapped (pageOf (formatOf mode file) (blank out)) (outcome mode file) =
+          s ∙ rw (g, b, walk-laid (formatOf mode file) (blank out) h file (blockCount file), good, outcome) (sym (finish-mapped _ (blockCount file) _)) in (
+            d ∙ rw (x, g) (answer-right room out (outcome mode file) refl),
+            λ p c. marks-right p text out out′ on w (x ∙ rw c),
+          )
 
 -- pass two
+kept : (s : OpenSet) → isGood (anySet s) ≡ true
+unfolding anySet noRefusal isGood
+kept s = refl
+
 module _ (mode : ℕ) (file : List ℕ) where
   pub document-written :
-      {f : Format} {n at last : ℕ} {marks clear : Marks} {buf b1 b2 b3 : List ℕ} {laid : Tally} → f ≡ formatOf mode file → n ≡ blockCount file
-      → Wrote buf 0 (headOf (f .rate) (marks .on)) b1 at
-      → ((p : Progress) → finish n (walk f file n) ≡ accepted p → AllLaid b1 (record { at = at; spans = 0; marks = clear }) (map (paragraphOf f) (p .subtitles)) b2 laid)
-      → Wrote b2 (laid .at) afterParagraphs b3 last → (p : Progress) → outcome mode file ≡ accepted p → marks .on ≡ marksOf (formatOf mode file) p
-      → Wrote buf 0 (render (documentOf (formatOf mode file) p)) b3 last
-  document-written {f} g b w1 d w3 p c m =
-      let o = outcome-walk mode file refl (rule-kept mode file p c) g b in
-      wrote-as (document-parts (formatOf mode file) p m) ((rw g at w1) ⨟ (rw g at (d p (sym o ∙ c) .wrote)) ⨟ w3)
+      {f : Format} {n at last : ℕ} {marks : Marks} {buf b1 : List ℕ} (w : Pass) (text b2 : List ℕ) {b3 : List ℕ} (on on′ : List Bool) → f ≡ formatOf mode file
+      → n ≡ blockCount file → Wrote buf 0 (headOf (f .rate) (marks .on)) b1 at → at < 2 ^ 64
+      → standing w text b2 on′ ≡ walk f anySet (laySet f) (record { out = b1; marks = on; tally = record { at = at; spans = 0 } }) file n
+      → Wrote b2 (w .tally .at) afterParagraphs b3 last → (p : Progress (List Subtitle)) → outcome mode file ≡ accepted p
+      → marks .on ≡ marksOf (formatOf mode file) (p .gathered) → Wrote buf 0 (render (documentOf (formatOf mode file) (p .gathered))) b3 last
+  unfolding mapped pageOf laid
+  document-written {f} {n} {at} {b1 = b1} w text b2 on on′ g b w1 l s w3 p c m =
+      let r = formatOf mode file in
+      let page : Page = record { out = b1; marks = on; tally = record { at = at; spans = 0 } } in
+      let h : Sound page = record { room = omega (arith, w1 .room, wrote-length w1); at = l; spans = omega arith } in
+      let z : walk r (setRule r) (laySet r) page file (blockCount file) ≡ mapped (pageOf r page) (accepted p) =
+      walk-laid r page h file (blockCount file) ∙ ap (mapped (pageOf r page)) (walk-was mode file p c) in
+      let y = page-is w text b2 on′ ((rw (g, b) at s) ∙ walk-without r (setRule r) anySet kept (laySet r) page file (blockCount file) _ z) in
+      let w2 : Wrote b1 at (joinMap writeParagraph (map (paragraphOf r) (p .gathered))) b2 (w .tally .at) =
+      record { held = sym (ap (λ (q : Page). q .out) y); next = sym (ap (λ (q : Page). q .tally .at) y); room = h .room } in
+      wrote-as (document-parts r (p .gathered) m) ((rw g at w1) ⨟ w2 ⨟ w3)
+
+-- the answer by what pass one laid
+module _ (f : Format) (room : ℕ) (w : Pass) (text out : List ℕ) (marks : List Bool) {a : Answer} where
+  pub told-refused : (w .refusal .number ≡ 0 → ⊥) → a ≡ refusedAnswer (w .refusal) 0 → a ≡ answerOf f room (standing w text out marks)
+  unfolding answerOf
+  told-refused z d = d ∙ rw (standing-bad w text out marks (bad-number _ z))
+
+  module _ (z : w .refusal .number ≡ 0) {n : ℕ} (e : n ≡ measured (f .rate) marks (w .tally .at)) where
+    pub told-long : room < n → a ≡ refusedAnswer (record { number = 16; place = 0 }) n → a ≡ answerOf f room (standing w text out marks)
+    unfolding answerOf answerBy
+    told-long h d = d ∙ rw (standing-good w text out marks (good-number _ z), e, lt-leb _ room (rw e at h), answerBy)
+
+    pub told-good : n ≤ room → a ≡ acceptedAnswer n (w .counts) (w .tally .spans) → a ≡ answerOf f room (standing w text out marks)
+    unfolding answerOf answerBy
+    told-good h d = d ∙ rw (standing-good w text out marks (good-number _ z), e, le-leb _ room (rw e at h), answerBy)
 
 -- what the converter promises
 module _ (mode : ℕ) (file buf : List ℕ) {r : Answer} (e : r ≡ answer mode file (length buf)) where
@@ -180,22 +219,21 @@ module _ (mode : ℕ) (file buf : List ℕ) {r : Answer} (e : r ≡ answer mode 
       answered : answer mode file (length buf) .number ≡ 0
       answered = ap (λ (a : Answer). a .number) (sym e) ∙ z
 
+      taken : Accepted Any mode file (any-blocks _) buf
+      taken = accepted-file Any mode file (any-blocks _) buf answered
+
       pub blocks-bound : blockCount file ≤ 99999
-      blocks-bound =
-          let t = accepted-file Any mode file (any-blocks _) buf answered in
-          tnb-bound mode file (rule-kept mode file (t .progress) (t .came))
+      blocks-bound = tnb-bound mode file (rule-kept mode file (taken .progress) (taken .came))
 
       pub right-written :
-          {out : List ℕ} {last : ℕ} {marks : Marks} → ((p : Progress) → outcome mode file ≡ accepted p → marks .on ≡ marksOf (formatOf mode file) p)
-          → ((p : Progress) → outcome mode file ≡ accepted p → marks .on ≡ marksOf (formatOf mode file) p → Wrote buf 0 (render (documentOf (formatOf mode file) p)) out last) → Right out
-      unfolding answer answerTo refusal
+          {out : List ℕ} {last : ℕ} {marks : Marks}
+          → ((p : Progress (List Subtitle)) → outcome mode file ≡ accepted p → marks .on ≡ marksOf (formatOf mode file) (p .gathered))
+          → ((p : Progress (List Subtitle)) → outcome mode file ≡ accepted p → marks .on ≡ marksOf (formatOf mode file) (p .gathered)
+          → Wrote buf 0 (render (documentOf (formatOf mode file) (p .gathered))) out last)
+          → Right out
+      unfolding answer answerTo answerBy refusedAnswer
       right-written m w =
-          let t = accepted-file Any mode file (any-blocks _) buf answered in
-          by-test (leb (length (render (documentOf (formatOf mode file) (t .progress)))) (length buf))
+          let t = taken in
+          by-test (leb (length (render (documentOf (formatOf mode file) (t .progress .gathered)))) (length buf))
           (λ f. right (wrote-placed (w (t .progress) (t .came) (m (t .progress) (t .came))) (leb-true _ _ f) ∙ sym (t .written)))
-          (λ f. let y : _≡_ {A = ℕ} 16 0 = rw (t .came, answerTo, f) at answered in absurd (omega arith))
-
--- demand 3 of an answer that is told otherwise
-pub fewest-told :
-    {mode : ℕ} {file out : List ℕ} {r a : Answer} → r ≡ a → (r .number ≡ 0 → FewestSpans mode file r out) → r .number ≡ 0 → FewestSpans mode file a out
-fewest-told {mode} {file} {out} e f z = subst (λ (a : Answer). FewestSpans mode file a out) e (f z)
+          (λ f. let y : _≡_ {A = ℕ} 16 0 = rw (t .came, answerTo, f, answerBy) at answered in absurd (omega arith))

@@ -1,83 +1,105 @@
--- Paragraphs laid after others; and those of a closed set within the rules.
+-- Paragraphs laid behind others, and those of a closed set within the rules.
 -- Assumes nothing.
 use Prim.Native.Nat.{ℕ, _<_, _^_}
 use native.Mathlib.Omega.{arith}
-use mathlib.Core.Path.{_≡_, refl, ap}
+use mathlib.Core.Path.{_≡_, refl, sym, ap, _∙_}
+use mathlib.Core.Bool.{Bool, true, false}
 use mathlib.Core.List.{List, [], _∷_, _++_, map, append-nil}
-use lib.ListN.{length, take}
-use borrow.Author.Tests.{eq-eqb, ne-eqb}
+use lib.ListN.{length, take, drop}
+use Rattle.meaning.specs.declared.Refusal.{Refusal}
 use Rattle.meaning.specs.declared.Header.{Header}
 use Rattle.meaning.specs.declared.Format.{Format}
-use Rattle.meaning.specs.Lists.{joinMap}
+use Rattle.meaning.specs.Refusals.{noRefusal, isGood}
+use Rattle.meaning.specs.Lists.{joinMap, field}
 use Rattle.meaning.specs.Codes.{tokens}
 use Rattle.meaning.specs.Rows.{textRule}
 use Rattle.meaning.specs.Blocks.{isComment}
-use Rattle.meaning.specs.Sets.{OpenSet, subtitleOf, setRule, subtitlesFrom}
+use Rattle.meaning.specs.Sets.{OpenSet}
+use Rattle.meaning.specs.Walk.{setRule, subtitleOf, subtitlesFrom}
 use Rattle.meaning.specs.Document.{Paragraph, writeParagraph, paragraphLooks, documentLooks}
 use Rattle.meaning.specs.Conversion.{paragraphOf}
 use Rattle.meaning.proofs.Logic.{by-test}
 use Rattle.meaning.proofs.ListLaws.{join-append}
-use Rattle.output.specs.Output.{past}
-use Rattle.output.proofs.Laws.{wrote-nothing}
+use Rattle.output.specs.Output.{stored, past}
+use Rattle.output.proofs.Laws.{wrote-length}
 use Rattle.text.specs.declared.Tally.{Tally}
-use Rattle.text.specs.Laid.{markedWith}
+use Rattle.text.specs.Laid.{Laid, markedWith}
 use Rattle.text.proofs.Laws.{_then_}
 use Rattle.text.proofs.Content.{content-whole}
 use Rattle.document.specs.Parts.{paragraphFor, ParagraphLaid}
-use Rattle.sets.specs.declared.Sets.{Sets}
+use Rattle.sets.specs.declared.Set.{Set}
 use Rattle.sets.specs.Assembling.{setOf}
-use Rattle.convert.specs.Laid.{AllLaid, paragraphsFor}
+use Rattle.convert.specs.Passing.{Page, laid, paragraphsFor, laySet}
 
-pub map-append : {A B : Type 0} (f : A → B) (xs ys : List A) → map f (xs ++ ys) ≡ map f xs ++ map f ys
-map-append f [] ys = refl
-map-append {B = B} f (x ∷ xs) ys = ap (λ (l : List B). f x ∷ l) (map-append f xs ys)
+pages :
+    {out out′ : List ℕ} {marks marks′ : List Bool} {at at′ spans spans′ : ℕ} → out ≡ out′ → marks ≡ marks′ → at ≡ at′ → spans ≡ spans′
+    → _≡_ {A = Page} (record { out = out; marks = marks; tally = record { at = at; spans = spans } })
+    (record { out = out′; marks = marks′; tally = record { at = at′; spans = spans′ } })
+pages e f g h = rw (e, f, g, h)
 
--- no paragraph, one, and more after others
-pub laid-none : {buf : List ℕ} (t : Tally) → length buf < 2 ^ 64 → t .at < 2 ^ 64 → t .spans < 2 ^ 64 → AllLaid buf t [] buf t
-unfolding joinMap documentLooks markedWith past
-laid-none {buf} t h i j = record { wrote = wrote-nothing buf (t .at) h i; spans = omega arith; marks = refl }
+pub laid-none : (p : Page) → p .tally .at < 2 ^ 64 → p .tally .spans < 2 ^ 64 → p ≡ laid [] p
+unfolding laid joinMap documentLooks stored markedWith past
+laid-none p h i = pages refl refl (omega arith) (omega arith)
 
-laid-one : {buf now : List ℕ} {t r : Tally} (p : Paragraph) → ParagraphLaid buf t p now r → AllLaid buf t (p ∷ []) now r
-unfolding joinMap documentLooks
-laid-one p l = rw (append-nil (writeParagraph p), append-nil (paragraphLooks p)) l
+-- a page is what is laid on another
+pub is-laid :
+    {out out′ : List ℕ} {marks marks′ : List Bool} {t r : Tally} (ps : List Paragraph) → Laid out marks t (joinMap writeParagraph ps) (documentLooks ps) out′ marks′ r
+    → _≡_ {A = Page} (record { out = out′; marks = marks′; tally = r }) (laid ps (record { out = out; marks = marks; tally = t }))
+unfolding laid
+is-laid ps l = pages (l .wrote .held) (l .marks) (l .wrote .next) (l .spans)
 
-pub laid-then : {buf b1 b2 : List ℕ} {t t1 t2 : Tally} (ps qs : List Paragraph) → AllLaid buf t ps b1 t1 → AllLaid b1 t1 qs b2 t2 → AllLaid buf t (ps ++ qs) b2 t2
+pub laid-is :
+    (ps : List Paragraph) (p : Page) → length (p .out) < 2 ^ 64
+    → Laid (p .out) (p .marks) (p .tally) (joinMap writeParagraph ps) (documentLooks ps) (laid ps p .out) (laid ps p .marks) (laid ps p .tally)
+unfolding laid
+laid-is ps p h = record { wrote = record { held = refl; next = refl; room = h }; spans = refl; marks = refl }
+
+pub laid-append : (ps qs : List Paragraph) (p : Page) → length (p .out) < 2 ^ 64 → laid (ps ++ qs) p ≡ laid qs (laid ps p)
 unfolding documentLooks
-laid-then ps qs a b = rw (join-append writeParagraph ps qs, join-append paragraphLooks ps qs) (a then b)
+laid-append ps qs p h =
+    let a = laid-is ps p h in
+    let b = laid-is qs (laid ps p) (omega (arith, wrote-length (a .wrote))) in
+    sym (is-laid (ps ++ qs) (rw (join-append writeParagraph ps qs, join-append paragraphLooks ps qs) (a then b)))
 
--- a comment, and a subtitle
-module _ (f : Format) (s : Sets) (text : List ℕ) where
-  pub rule-comment : s .first .cf ≡ 1 → 0 ≡ setRule f (setOf s text)
-  unfolding setRule isComment setOf
-  rule-comment e = rw (eq-eqb (s .first .cf) 1 e)
+one :
+    {out out′ : List ℕ} {marks marks′ : List Bool} {t r : Tally} (p : Paragraph) → ParagraphLaid out marks t p out′ marks′ r
+    → Laid out marks t (joinMap writeParagraph (p ∷ [])) (documentLooks (p ∷ [])) out′ marks′ r
+unfolding joinMap documentLooks
+one p l = rw (append-nil (writeParagraph p), append-nil (paragraphLooks p)) l
+
+-- a closed set, by the flag of its first block
+module _ (f : Format) (s : Set) (text : List ℕ) {comment : Bool} (co : comment ≡ isComment (s .first)) where
+  pub rule-comment : comment ≡ true → noRefusal ≡ setRule f (setOf s text)
+  unfolding setRule setOf
+  rule-comment e = rw (sym co, e)
 
   pub rule-subtitle :
-      (s .first .cf ≡ 1 → ⊥) → textRule (f .mode) (f .screen .end) (s .first .vp) (tokens (take (s .size) text)) ≡ setRule f (setOf s text)
-  unfolding setRule isComment setOf
-  rule-subtitle e = rw (ne-eqb (s .first .cf) 1 e)
+      {r : Refusal} {t : List ℕ} → comment ≡ false → t ≡ field 0 (s .size) text → r ≡ textRule f (s .place) (s .first .vp) (tokens t)
+      → r ≡ setRule f (setOf s text)
+  unfolding setRule setOf field
+  rule-subtitle e d g = rw (sym co, e) (g ∙ rw d)
 
-  pub laid-comment :
-      {buf : List ℕ} (t : Tally) → s .first .cf ≡ 1 → length buf < 2 ^ 64 → t .at < 2 ^ 64 → t .spans < 2 ^ 64
-      → AllLaid buf t (paragraphsFor f (setOf s text)) buf t
-  unfolding paragraphsFor isComment setOf
-  laid-comment t e h i j = rw (eq-eqb (s .first .cf) 1 e) (laid-none t h i j)
+  pub lay-comment : (p : Page) → comment ≡ true → p .tally .at < 2 ^ 64 → p .tally .spans < 2 ^ 64 → p ≡ laySet f (setOf s text) p
+  unfolding laySet paragraphsFor setOf
+  lay-comment p e h i = rw (sym co, e) (laid-none p h i)
 
-  pub laid-subtitle :
-      {buf now : List ℕ} {t r : Tally} → (s .first .cf ≡ 1 → ⊥) → ParagraphLaid buf t (paragraphFor f (s .first) (take (s .size) text)) now r
-      → AllLaid buf t (paragraphsFor f (setOf s text)) now r
-  unfolding paragraphsFor isComment setOf
-  laid-subtitle e l = rw (ne-eqb (s .first .cf) 1 e) (laid-one _ l)
+  pub lay-subtitle :
+      {out out′ : List ℕ} {marks marks′ : List Bool} {t r : Tally} {part : List ℕ} → comment ≡ false → part ≡ field 0 (s .size) text
+      → ParagraphLaid out marks t (paragraphFor f (s .first) part) out′ marks′ r
+      → _≡_ {A = Page} (record { out = out′; marks = marks′; tally = r }) (laySet f (setOf s text) (record { out = out; marks = marks; tally = t }))
+  unfolding laySet paragraphsFor setOf field
+  lay-subtitle e d l = rw (sym co, e, sym d) (is-laid _ (one _ l))
 
 paragraph-whole :
-    (f : Format) (h : Header) (text : List ℕ) → textRule (f .mode) (f .screen .end) (h .vp) (tokens text) ≡ 0
+    (f : Format) (place : ℕ) (h : Header) (text : List ℕ) → isGood (textRule f place (h .vp) (tokens text)) ≡ true
     → paragraphFor f h text ≡ paragraphOf f (subtitleOf (f .mode) h (tokens text))
 unfolding paragraphFor paragraphOf subtitleOf
-paragraph-whole f h text e = rw (content-whole (f .mode) (f .screen .end) (h .vp) text e)
+paragraph-whole f place h text e = rw (content-whole f place (h .vp) text e)
 
 -- what is laid for a set within the rules are the paragraphs of its subtitles
-pub paragraphs-whole : (f : Format) (s : OpenSet) → setRule f s ≡ 0 → paragraphsFor f s ≡ map (paragraphOf f) (subtitlesFrom f s)
+pub paragraphs-whole : (f : Format) (s : OpenSet) → isGood (setRule f s) ≡ true → paragraphsFor f s ≡ map (paragraphOf f) (subtitlesFrom f s)
 unfolding setRule paragraphsFor subtitlesFrom
 paragraphs-whole f s e =
     by-test (isComment (s .first))
     (λ c. rw c)
-    (λ c. rw c (ap (λ (p : Paragraph). p ∷ []) (paragraph-whole f (s .first) (s .text) (rw c at e))))
+    (λ c. rw c (ap (λ (p : Paragraph). p ∷ []) (paragraph-whole f (s .place) (s .first) (s .text) (rw c at e))))

@@ -1,5 +1,5 @@
-pub mod Laying
-pub mod Stepping
+pub mod Standing
 pub mod Looping
+pub mod Laying
 pub mod Marking
 pub mod Converting

@@ -3,7 +3,7 @@
 use Prim.Native.Nat.{ℕ, _<_}
 use native.Mathlib.Omega.{arith}
 use mathlib.Core.Path.{_≡_, refl, sym, ap, _∙_}
-use mathlib.Core.Bool.{Bool, true, false, _||_}
+use mathlib.Core.Bool.{Bool, true, false, _||_, or-false, or-assoc, or-comm}
 use mathlib.Core.List.{List, [], _∷_}
 use lib.Dec.{eqb}
 use lib.ListN.{length, getD, set, replicate, length-set, length-replicate, getD-replicate}
@@ -12,7 +12,7 @@ use borrow.Author.Tests.{eqb-true, eqb-false}
 use Rattle.meaning.specs.Lists.{any}
 use Rattle.meaning.specs.Looks.{lookCount}
 use Rattle.meaning.specs.Document.{Paragraph, documentLooks, isUsed, looksUsed}
-use Rattle.meaning.proofs.Logic.{by-test, or-join}
+use Rattle.meaning.proofs.Logic.{by-test, or-true-right}
 use Rattle.meaning.proofs.ListLaws.{any-cons}
 use Rattle.styles.specs.Styles.{looksMarked}
 use Rattle.styles.proofs.Laws.{marked-used}
@@ -23,29 +23,21 @@ any-none : {A : Type 0} (p : A → Bool) → any p [] ≡ false
 unfolding any
 any-none p = refl
 
-or-true : (a : Bool) → true ≡ (a || true)
-or-true true = refl
-or-true false = refl
-
-or-false : (a : Bool) → a ≡ (a || false)
-or-false true = refl
-or-false false = refl
-
 set-mark : (on : List Bool) (j k : ℕ) → k < length on → getD (set on j true) k false ≡ (getD on k false || eqb k j)
 set-mark on j k h =
     by-test (eqb k j)
     (λ e.
     let q = sym (eqb-true k j e) in
-    rw (e, q) (getD-set-same on k true false h ∙ or-true (getD on k false)))
-    (λ e. rw e (getD-set-other on j k true false (eqb-false k j e) ∙ or-false (getD on k false)))
+    rw (e, q) (getD-set-same on k true false h ∙ sym (or-true-right (getD on k false) true refl)))
+    (λ e. rw e (getD-set-other on j k true false (eqb-false k j e) ∙ sym (or-false (getD on k false))))
 
 marked-at : (on : List Bool) (ls : List ℕ) (k : ℕ) → k < length on → getD (markedWith on ls) k false ≡ (getD on k false || any (eqb k) ls)
 unfolding markedWith
-marked-at on [] k h = or-false (getD on k false) ∙ ap (λ (b : Bool). getD on k false || b) (sym (any-none (eqb k)))
+marked-at on [] k h = rw (any-none (eqb k)) (sym (or-false (getD on k false)))
 marked-at on (l ∷ ls) k h =
     marked-at (set on l true) ls k (omega (arith, length-set on l true))
     ∙ ap (λ (b : Bool). b || any (eqb k) ls) (set-mark on l k h)
-    ∙ or-join (getD on k false) (eqb k l) _
+    ∙ or-assoc (getD on k false) (eqb k l) _
     ∙ ap (λ (b : Bool). getD on k false || b) (sym (any-cons (eqb k) l ls))
 
 pub looks-right : {on : List Bool} (ps : List Paragraph) → on ≡ markedWith (replicate lookCount false) (documentLooks ps) → looksMarked on ≡ looksUsed ps

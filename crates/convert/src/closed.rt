@@ -1,37 +1,38 @@
 // A closed set: the rules 13 to 15 over its text, and its paragraph. A comment is neither tested nor laid.
 
 ghost use mathlib.Core.Path.{_≡_};
-ghost use Prim.Native.Nat.{_≤_};
-ghost use lib.ListN.{length};
-ghost use Rattle.meaning.specs.Sets.{setRule};
+ghost use Rattle.meaning.specs.Walk.{setRule};
 ghost use Rattle.sets.specs.Assembling.{setOf};
-ghost use Rattle.convert.specs.Laid.{AllLaid, paragraphsFor};
+ghost use Rattle.convert.specs.Passing.{laySet};
 use meaning::Format;
-use sets::Sets;
+use meaning::Refusal;
+use sets::Set;
 use text::Tally;
 
-// The number of the first rule that the set breaks, or 0.
-pub(crate) fn set_rule(f: Format, text: &[u8], s: Sets) -> u64
-    requires { ⌜ s .size ≤ length (now text) ⌝ }
-    ensures { λ r. ⌜ r ≡ setRule f (setOf s (now (text .entry))) ⌝ }
+// The first rule that the set breaks.
+pub(crate) fn set_rule(f: Format, text: &[u8], set: Set) -> Refusal
+    ensures { λ r. ⌜ r ≡ setRule f (setOf set (now (text .entry))) ⌝ }
 {
-    let h = s.first;
-    if h.cf == 1 {
-        return 0;
+    let h = set.first;
+    if h.is_comment() {
+        return Refusal::NONE;
     }
-    let screen = f.screen;
-    let size = s.size;
-    rows::text_rule(&text[..size], f.mode, screen.end, h.vp)
+    rows::text_rule(block::field(text, 0, set.size), f, set.place, h.vp)
 }
 
-pub(crate) fn lay(f: Format, text: &[u8], out: &mut [u8], s: Sets, t: Tally) -> Tally
-    requires { ⌜ s .size ≤ length (now text) ⌝ }
-    ensures { λ r. ⌜ AllLaid (now (out .entry)) t (paragraphsFor f (setOf s (now (text .entry)))) (now (out .exit)) r ⌝ }
+pub(crate) fn lay(
+    f: Format,
+    text: &[u8],
+    out: &mut [u8],
+    marks: &mut [bool],
+    set: Set,
+    t: Tally,
+) -> Tally
+    ensures { λ r. ⌜ record { out = now (out .exit); marks = now (marks .exit); tally = r } ≡ laySet f (setOf set (now (text .entry))) (record { out = now (out .entry); marks = now (marks .entry); tally = t }) ⌝ }
 {
-    let h = s.first;
-    if h.cf == 1 {
+    let h = set.first;
+    if h.is_comment() {
         return t;
     }
-    let size = s.size;
-    document::put_paragraph(out, t, h, &text[..size], f)
+    document::put_paragraph(out, marks, t, h, block::field(text, 0, set.size), f)
 }

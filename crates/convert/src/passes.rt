@@ -1,122 +1,206 @@
 // The two passes over a file's blocks. Pass one judges each set that closes and measures its paragraph; pass two, over a file
-// that pass one found good, writes it.
+// that pass one found good, writes it. Both are the walk of the definitions, pass two without a rule.
 
 ghost use mathlib.Core.Path.{_≡_};
-ghost use mathlib.Core.List.{map};
-ghost use Prim.Native.Nat.{suc, _≤_, _<_};
+ghost use mathlib.Core.Bool.{Bool, true};
+ghost use mathlib.Core.List.{List};
+ghost use Prim.Native.Nat.{ℕ, _≤_, _<_};
 ghost use lib.ListN.{length};
-ghost use Rattle.meaning.specs.Sets.{Progress, advance, judge, finish, walk};
-ghost use Rattle.meaning.specs.Sets.Outcome.{accepted};
-ghost use Rattle.meaning.specs.Conversion.{paragraphOf};
-ghost use Rattle.sets.specs.Assembling.{assemblyOf, Ready};
-ghost use Rattle.convert.specs.Laid.{AllLaid};
-ghost use Rattle.convert.specs.Passing.{Going, Checked, Went};
+ghost use Rattle.meaning.specs.Refusals.{isGood};
+ghost use Rattle.meaning.specs.Walk.{total, counted, setRule, step, finish, walk};
+ghost use Rattle.sets.specs.Assembling.{textRoom, hasRoom};
+ghost use Rattle.convert.specs.Passing.{laySet, anySet, standing, TakenBlock};
 use crate::closed::lay;
 use crate::closed::set_rule;
+use meaning::Counts;
 use meaning::Format;
+use meaning::Header;
+use meaning::Refusal;
+use sets::Current;
 use sets::Sets;
 use sets::Step;
 use text::Tally;
 
-// The refusal, if there is one, and its place; the sets; what was laid.
+// The refusal, if there is one; the sets; the counts; and how much was laid.
 pub struct Pass {
-    pub number: u64,
-    pub place: usize,
+    pub refusal: Refusal,
     pub sets: Sets,
+    pub counts: Counts,
     pub tally: Tally,
 }
 
-fn refused(w: Pass, number: u64, place: usize) -> Pass
-    ensures { λ r. ⌜ (r .number ≡ number) × (r .place ≡ place) ⌝ }
+const NO_SETS: Sets = Sets {
+    least: 0,
+    current: Current::Between,
+};
+
+const NO_COUNTS: Counts = Counts {
+    subtitles: 0,
+    comments: 0,
+    continuations: 0,
+    users: 0,
+};
+
+impl Pass {
+    // After the last of n blocks: a set still open is refused.
+    fn finished(self, n: u64) -> Pass
+        ensures { λ r. ⌜ ((text out : List ℕ) (marks : List Bool) → standing r text out marks ≡ finish n (standing self text out marks)) ⌝ }
+    {
+        let refusal = self.refusal;
+        if refusal.number != 0 {
+            return self;
+        }
+        let sets = self.sets;
+        if sets.is_open() {
+            return self.refused(Refusal {
+                number: 7,
+                place: n,
+            });
+        }
+        self
+    }
+
+    fn going(self, sets: Sets, counts: Counts, tally: Tally) -> Pass
+        ensures { λ w. ⌜ w ≡ record { refusal = self .refusal; sets = sets; counts = counts; tally = tally } ⌝ }
+    {
+        let refusal = self.refusal;
+        Pass {
+            refusal,
+            sets,
+            counts,
+            tally,
+        }
+    }
+
+    fn refused(mut self, r: Refusal) -> Pass
+        ensures { λ w. ⌜ w ≡ record { refusal = r; sets = self .sets; counts = self .counts; tally = self .tally } ⌝ }
+    {
+        self.refusal = r;
+        self
+    }
+}
+
+// One block more, where a set is open or not.
+fn counted(c: Counts, in_set: bool, h: Header) -> Counts
+    requires { ⌜ total c < 99999 ⌝ }
+    ensures { λ r. ⌜ r ≡ counted in_set h c ⌝ }
 {
-    let mut r = w;
-    r.number = number;
-    r.place = place;
+    let mut r = c;
+    if h.is_user() {
+        r.users += 1;
+        return r;
+    }
+    if in_set {
+        r.continuations += 1;
+        return r;
+    }
+    if h.is_comment() {
+        r.comments += 1;
+        return r;
+    }
+    r.subtitles += 1;
     r
 }
 
-fn going(w: Pass, s: Sets, t: Tally) -> Pass
-    ensures { λ r. ⌜ Went w s t r ⌝ }
-{
-    let mut r = w;
-    r.sets = s;
-    r.tally = t;
-    r
+// The step that a block makes, and the counts with it.
+struct Taken {
+    step: Step,
+    counts: Counts,
 }
 
-// Block k in pass one.
-fn check_block(f: Format, k: usize, bytes: &[u8], text: &mut [u8], out: &mut [u8], w: Pass) -> Pass
-    requires { ⌜ Ready k (w .sets) (now text) × (k < 99999) × (length (now bytes) ≤ 128) × (w .number ≡ 0) ⌝ }
-    ensures { λ r. ⌜ Checked f (now (out .entry)) (w .tally) (suc k) (now (text .exit)) (now (out .exit)) r (judge f (advance f k (now (bytes .entry)) (assemblyOf (w .sets) (now (text .entry))))) ⌝ }
+fn take_block(f: Format, place: u64, bytes: &[u8], text: &mut [u8], w: Pass) -> Taken
+    requires { ⌜ (hasRoom (now bytes) (w .sets) (now text) ≡ true) × (total (w .counts) < 99999) ⌝ }
+    ensures { λ r. ⌜ TakenBlock f place (now (bytes .entry)) w (now (text .entry)) (now (text .exit)) r ⌝ }
 {
     let sets = w.sets;
-    let t = w.tally;
-    let step = sets::advance(f, k, bytes, text, sets);
+    let counts = counted(w.counts, sets.is_open(), block::header_of(bytes));
+    let step = sets::advance(f, place, bytes, text, sets);
+    Taken { step, counts }
+}
+
+// A block in pass one.
+fn check_block(
+    f: Format,
+    place: u64,
+    bytes: &[u8],
+    text: &mut [u8],
+    out: &mut [u8],
+    marks: &mut [bool],
+    w: Pass,
+) -> Pass
+    requires { ⌜ (isGood (w .refusal) ≡ true) × (hasRoom (now bytes) (w .sets) (now text) ≡ true) × (total (w .counts) < 99999) ⌝ }
+    ensures { λ r. ⌜ standing r (now (text .exit)) (now (out .exit)) (now (marks .exit)) ≡ step f (setRule f) (laySet f) place (standing w (now (text .entry)) (now (out .entry)) (now (marks .entry))) (now (bytes .entry)) ⌝ }
+{
+    let taken = take_block(f, place, bytes, text, w);
+    let step = taken.step;
     match step {
-        Step::Refused(number) => refused(w, number, k),
-        Step::Pending(s) => going(w, s, t),
-        Step::Closed(s) => {
-            let rule = set_rule(f, text, s);
-            if rule != 0 {
-                return refused(w, rule, s.place);
+        Step::NoRoom => w,
+        Step::Broken(rule) => w.refused(rule),
+        Step::Pending(s) => w.going(s, taken.counts, w.tally),
+        Step::Closed(set, s) => {
+            let rule = set_rule(f, text, set);
+            if rule.number != 0 {
+                return w.refused(rule);
             }
-            let laid = lay(f, text, out, s, t);
-            going(w, s, laid)
+            let tally = lay(f, text, out, marks, set, w.tally);
+            w.going(s, taken.counts, tally)
         }
     }
 }
 
-// Pass one over n blocks. A set open at the end is refused at the block count.
+// Pass one over n blocks.
 pub(crate) fn check_blocks(
     file: &[u8],
     n: usize,
     f: Format,
     text: &mut [u8],
     out: &mut [u8],
+    marks: &mut [bool],
     t: Tally,
 ) -> Pass
-    requires { ⌜ (n ≤ 99999) × (length (now text) ≡ 26992) ⌝ }
-    ensures { λ r. ⌜ Checked f (now (out .entry)) t n (now (text .exit)) (now (out .exit)) r (finish n (walk f (now (file .entry)) n)) ⌝ }
+    requires { ⌜ (n ≤ 99999) × (length (now text) ≡ textRoom) ⌝ }
+    ensures { λ r. ⌜ standing r (now (text .exit)) (now (out .exit)) (now (marks .exit)) ≡ finish n (walk f (setRule f) (laySet f) (record { out = now (out .entry); marks = now (marks .entry); tally = t }) (now (file .entry)) n) ⌝ }
 {
     let mut w = Pass {
-        number: 0,
-        place: 0,
-        sets: sets::none(),
+        refusal: Refusal::NONE,
+        sets: NO_SETS,
+        counts: NO_COUNTS,
         tally: t,
     };
     let mut k = 0;
     while k < n {
-        if w.number != 0 {
+        let refusal = w.refusal;
+        if refusal.number != 0 {
             return w;
         }
-        w = check_block(f, k, block::bytes_at(file, k), text, out, w);
+        w = check_block(f, k as u64, block::bytes_at(file, k), text, out, marks, w);
         k += 1;
     }
-    if w.number != 0 {
-        return w;
-    }
-    let sets = w.sets;
-    if sets.open {
-        return refused(w, 7, n);
-    }
-    w
+    w.finished(n as u64)
 }
 
-// Block k in pass two.
-fn write_block(f: Format, k: usize, bytes: &[u8], text: &mut [u8], out: &mut [u8], w: Pass) -> Pass
-    requires { ⌜ Ready k (w .sets) (now text) × (k < 99999) × (length (now bytes) ≤ 128) ⌝ }
-    ensures ready { λ r. ⌜ Ready (suc k) (r .sets) (now (text .exit)) ⌝ }
-    ensures written { λ r. ⌜ ((p : Progress) → judge f (advance f k (now (bytes .entry)) (assemblyOf (w .sets) (now (text .entry)))) ≡ accepted p → Going f (now (out .entry)) (w .tally) (now (text .exit)) (now (out .exit)) r p) ⌝ }
+// A block in pass two.
+fn write_block(
+    f: Format,
+    place: u64,
+    bytes: &[u8],
+    text: &mut [u8],
+    out: &mut [u8],
+    marks: &mut [bool],
+    w: Pass,
+) -> Pass
+    requires { ⌜ (isGood (w .refusal) ≡ true) × (hasRoom (now bytes) (w .sets) (now text) ≡ true) × (total (w .counts) < 99999) ⌝ }
+    ensures { λ r. ⌜ standing r (now (text .exit)) (now (out .exit)) (now (marks .exit)) ≡ step f anySet (laySet f) place (standing w (now (text .entry)) (now (out .entry)) (now (marks .entry))) (now (bytes .entry)) ⌝ }
 {
-    let sets = w.sets;
-    let t = w.tally;
-    let step = sets::advance(f, k, bytes, text, sets);
+    let taken = take_block(f, place, bytes, text, w);
+    let step = taken.step;
     match step {
-        Step::Refused(_) => w,
-        Step::Pending(s) => going(w, s, t),
-        Step::Closed(s) => {
-            let laid = lay(f, text, out, s, t);
-            going(w, s, laid)
+        Step::NoRoom => w,
+        Step::Broken(rule) => w.refused(rule),
+        Step::Pending(s) => w.going(s, taken.counts, w.tally),
+        Step::Closed(set, s) => {
+            let tally = lay(f, text, out, marks, set, w.tally);
+            w.going(s, taken.counts, tally)
         }
     }
 }
@@ -128,21 +212,26 @@ pub(crate) fn write_blocks(
     f: Format,
     text: &mut [u8],
     out: &mut [u8],
+    marks: &mut [bool],
     t: Tally,
-) -> Tally
-    requires { ⌜ (n ≤ 99999) × (length (now text) ≡ 26992) ⌝ }
-    ensures { λ r. ⌜ ((p : Progress) → finish n (walk f (now (file .entry)) n) ≡ accepted p → AllLaid (now (out .entry)) t (map (paragraphOf f) (p .subtitles)) (now (out .exit)) r) ⌝ }
+) -> Pass
+    requires { ⌜ (n ≤ 99999) × (length (now text) ≡ textRoom) ⌝ }
+    ensures { λ r. ⌜ standing r (now (text .exit)) (now (out .exit)) (now (marks .exit)) ≡ walk f anySet (laySet f) (record { out = now (out .entry); marks = now (marks .entry); tally = t }) (now (file .entry)) n ⌝ }
 {
     let mut w = Pass {
-        number: 0,
-        place: 0,
-        sets: sets::none(),
+        refusal: Refusal::NONE,
+        sets: NO_SETS,
+        counts: NO_COUNTS,
         tally: t,
     };
     let mut k = 0;
     while k < n {
-        w = write_block(f, k, block::bytes_at(file, k), text, out, w);
+        let refusal = w.refusal;
+        if refusal.number != 0 {
+            return w;
+        }
+        w = write_block(f, k as u64, block::bytes_at(file, k), text, out, marks, w);
         k += 1;
     }
-    w.tally
+    w
 }

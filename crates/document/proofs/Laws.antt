@@ -1,10 +1,9 @@
 -- Alignment by the number of JC.
 -- Assumes nothing.
-use Prim.Native.Nat.{ℕ, zero, suc, _≤_, _<_}
+use Prim.Native.Nat.{ℕ, zero, suc, _<_}
 use native.Mathlib.Omega.{arith}
 use mathlib.Core.Path.{_≡_, refl}
-use Rattle.meaning.specs.Document.{Alignment}
-use Rattle.meaning.specs.Document.Alignment.{left, centre, right}
+use Rattle.meaning.specs.Document.Alignment.{left, right}
 use Rattle.meaning.specs.Conversion.{alignmentOf}
 
 pub align-left : (n : ℕ) → n < 2 → alignmentOf n ≡ left

@@ -24,9 +24,9 @@ paragraphFor f h text =
       begin = h .tci;
       end = h .tco;
       alignment = alignmentOf (h .jc);
-      pieces = contentOf (f .mode) (f .screen .end) (h .vp) text;
+      pieces = contentOf f (h .vp) text;
     }
 
 -- a paragraph laid from a tally on
-abbrev pub ParagraphLaid : List ℕ → Tally → Paragraph → List ℕ → Tally → Type 0
-ParagraphLaid buf t p now r = Laid buf t (writeParagraph p) (looksOf (p .pieces)) now r
+abbrev pub ParagraphLaid : List ℕ → List Bool → Tally → Paragraph → List ℕ → List Bool → Tally → Type 0
+ParagraphLaid buf on t p buf′ on′ r = Laid buf on t (writeParagraph p) (looksOf (p .pieces)) buf′ on′ r

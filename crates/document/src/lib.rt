@@ -63,10 +63,16 @@ fn put_alignment(out: &mut [u8], at: usize, jc: u8) -> usize
 }
 
 // The paragraph of a set, from the header of its first block and its whole text.
-pub fn put_paragraph(out: &mut [u8], mut t: Tally, h: Header, text: &[u8], f: Format) -> Tally
-    ensures { λ r. ⌜ ParagraphLaid (now (out .entry)) t (paragraphFor f h (now (text .entry))) (now (out .exit)) r ⌝ }
+pub fn put_paragraph(
+    out: &mut [u8],
+    marks: &mut [bool],
+    mut t: Tally,
+    h: Header,
+    text: &[u8],
+    f: Format,
+) -> Tally
+    ensures { λ r. ⌜ ParagraphLaid (now (out .entry)) (now (marks .entry)) t (paragraphFor f h (now (text .entry))) (now (out .exit)) (now (marks .exit)) r ⌝ }
 {
-    let screen = f.screen;
     let begin = h.tci;
     let end = h.tco;
     let p = output::put(out, t.at, b"<tt:p xml:id=\"sub");
@@ -79,7 +85,7 @@ pub fn put_paragraph(out: &mut [u8], mut t: Tally, h: Header, text: &[u8], f: Fo
     let p = put_time(out, p, end);
     let p = output::put(out, p, b"\">");
     t.at = p;
-    let mut r = text::put_content(out, t, text, f.mode, screen.end, h.vp);
+    let mut r = text::put_content(out, marks, t, text, f, h.vp);
     r.at = output::put(out, r.at, b"</tt:p>\n");
     r
 }

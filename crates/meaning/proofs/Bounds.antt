@@ -11,31 +11,33 @@ use lib.ListN.{length, replicate, length-append, length-map, length-take, length
 use borrow.Author.Tests.{leb-true}
 use Rattle.meaning.specs.declared.Pen.{Pen}
 use Rattle.meaning.specs.declared.Token.{Token}
-use Rattle.meaning.specs.Lists.{all, keep, joinMap, joined, upFrom, bytes}
+use Rattle.meaning.specs.Lists.{all, keep, joinMap, joined, upFrom, bytes, field}
 use Rattle.meaning.specs.Looks.{lookCount, pack, unpack}
+use Rattle.meaning.specs.Refusals.{isGood}
 use Rattle.meaning.specs.Codes.{tokens, takesCell}
 use Rattle.meaning.specs.Rows.{isDouble, rows, linesOf, rowCount, isShort, rowsFit, textRule}
 use Rattle.meaning.specs.Cells.{Cell, points, newPen, penAfter, cellsOf, cellsFrom, rowStart, cellsOfRow, penAfterRow, cellRows, isBlankOnBlack, trimFront, beforeTrimmed, trimBack, shown}
 use Rattle.meaning.specs.Spans.{lookOf, uniform, spansFrom, spans}
-use Rattle.meaning.specs.Gsi.{field, teletext, formatOf, blockCount, isDigit, valueFrom, tnb, fileRule}
+use Rattle.meaning.specs.Gsi.{teletext, formatOf, blockCount, isDigit, valueFrom, tnb, fileRule}
 use Rattle.meaning.specs.declared.Time.{Time}
 use Rattle.meaning.specs.declared.Header.{Header}
 use Rattle.meaning.specs.declared.Format.{Format}
-use Rattle.meaning.specs.Sets.{Subtitle, Progress, outcome, subtitleOf}
-use Rattle.meaning.specs.Sets.Outcome.{accepted}
+use Rattle.meaning.specs.Walk.{Subtitle, Progress, outcome, subtitleOf}
+use Rattle.meaning.specs.Walk.Outcome.{accepted}
 use Rattle.meaning.specs.Document.{Piece, Alignment, Paragraph, Document, digits, withoutZeros, decimal, utf8, escaped, styleName, writeSpan, writePiece, writeTime, alignmentName, writeParagraph, channel, colourName, sizeName, writeStyle, isUsed, looksUsed, beforeRate, beforeStyles, beforeParagraphs, afterParagraphs, render, documentSpans}
 use Rattle.meaning.specs.Document.Piece.{span, br}
 use Rattle.meaning.specs.Document.Alignment.{left, centre, right}
 use Rattle.meaning.specs.Conversion.{spanOf, rowSpans, laterRows, rowPieces, fillers, paragraphOf, documentOf}
 use Rattle.meaning.specs.Profile.{startsWith, spanElements}
 use Rattle.meaning.proofs.Logic.{by-test, and-parts}
-use Rattle.meaning.proofs.ListLaws.{All, all-copies, all-map, join-append, test-split, unbroken}
+use Rattle.meaning.proofs.ListLaws.{All, Any, any-blocks, all-copies, all-map, join-append, test-split}
+use Rattle.meaning.proofs.RefusalLaws.{unbroken}
 use Rattle.meaning.proofs.ListLaws.All.{nil, cons}
 use Rattle.meaning.proofs.Trimming.{front-cut, front-kept, last-cut, last-kept}
 use Rattle.meaning.proofs.Pieces.{fillersOf, pieces-are}
 use Rattle.meaning.proofs.Elements.{elements-are-spans}
 use Rattle.meaning.proofs.Walk.{Made, Held}
-use Rattle.meaning.proofs.Accepted.{Any, any-blocks, outcome-kept, rule-kept, tnb-right}
+use Rattle.meaning.proofs.Accepted.{outcome-kept, rule-kept, tnb-right}
 
 -- after a number below b, n digits more write one below b times ten to the n
 abbrev tens : ℕ → ℕ → ℕ
@@ -56,12 +58,12 @@ value-bound (suc n) v b (c ∷ cs) l t h =
     value-bound n (10 * v + (c - 48)) (10 * b) cs (omega arith) (d .1) (omega (arith, digit-bound c (d .0)))
 
 -- rule 6
-module _ (mode : ℕ) (file : List ℕ) (e : fileRule mode file ≡ 0) where
+module _ (mode : ℕ) (file : List ℕ) (e : isGood (fileRule mode file) ≡ true) where
   five-digits : all isDigit (field 238 5 file) ≡ true
   unfolding fileRule
   five-digits =
-      let r₃ = unbroken _ _ _ (unbroken _ _ _ (unbroken _ _ _ e .1) .1) in
-      let r₆ = unbroken _ _ _ (unbroken _ _ _ (unbroken _ _ _ (r₃ .1) .1) .1) in
+      let r₃ = unbroken _ _ _ _ (unbroken _ _ _ _ (unbroken _ _ _ _ e .1) .1) in
+      let r₆ = unbroken _ _ _ _ (unbroken _ _ _ _ (unbroken _ _ _ _ (r₃ .1) .1) .1) in
       and-parts _ _ (r₆ .0) .0
 
   pub tnb-bound : blockCount file ≤ 99999
@@ -240,11 +242,11 @@ unfolding linesOf
 lines-least true n = omega arith
 lines-least false n = omega arith
 
-module _ (f : Format) (first : Header) (ts : List Token) (e : textRule (f .mode) (f .screen .end) (first .vp) ts ≡ 0) where
+module _ (f : Format) (first : Header) (ts : List Token) (place : ℕ) (e : isGood (textRule f place (first .vp) ts) ≡ true) where
   rows-fit : (all isShort (rows (f .mode) ts) ≡ true) × (first .vp + linesOf (isDouble ts) (rowCount (rows (f .mode) ts)) .0 ≤ f .screen .end)
   unfolding textRule rowsFit
   rows-fit =
-      let r = and-parts _ _ (unbroken _ _ _ (unbroken _ _ _ (unbroken _ _ _ e .1) .1) .0) in
+      let r = and-parts _ _ (unbroken _ _ _ _ (unbroken _ _ _ _ (unbroken _ _ _ _ e .1) .1) .0) in
       (r .0, leb-true _ (f .screen .end) (r .1))
 
   pieces-bound : f .screen .end ≤ 24 → size (paragraphOf f (subtitleOf (f .mode) first ts) .pieces) ≤ 59900
@@ -268,7 +270,7 @@ made-bound :
 made-bound {f = f} h s m =
     rw (m .made)
     (let t = subtitleOf (f .mode) (s .first) (tokens (m .text)) in
-    omega (arith, paragraph-bound (paragraphOf f t), pieces-bound f (s .first) (tokens (m .text)) (m .rule) h))
+    omega (arith, paragraph-bound (paragraphOf f t), pieces-bound f (s .first) (tokens (m .text)) (m .place) (m .rule) h))
 
 -- the style lines: one for each look at most
 keep-bound : {A : Type 0} (p : A → Bool) (xs : List A) → length (keep p xs) ≤ length xs
@@ -318,7 +320,7 @@ elements-bound (b ∷ s) =
     (λ e. rw (e, spanElements) (omega (arith, elements-bound s)))
 
 -- an accepted file
-module _ (mode : ℕ) (file : List ℕ) (p : Progress) (c : outcome mode file ≡ accepted p) where
+module _ (mode : ℕ) (file : List ℕ) (p : Progress (List Subtitle)) (c : outcome mode file ≡ accepted p) where
   held : Held Any (formatOf mode file) (blockCount file) p
   held = rw c at (outcome-kept Any mode file (any-blocks _))
 
@@ -326,28 +328,28 @@ module _ (mode : ℕ) (file : List ℕ) (p : Progress) (c : outcome mode file �
   unfolding formatOf teletext
   teletext-end = omega arith
 
-  pub subtitles-bound : length (p .subtitles) ≤ 99999
+  pub subtitles-bound : length (p .gathered) ≤ 99999
   subtitles-bound = omega (arith, held .few, tnb-bound mode file (rule-kept mode file p c))
 
-  pub paragraphs-bound : length (joinMap writeParagraph (map (paragraphOf (formatOf mode file)) (p .subtitles))) ≤ 6000000000
+  pub paragraphs-bound : length (joinMap writeParagraph (map (paragraphOf (formatOf mode file)) (p .gathered))) ≤ 6000000000
   paragraphs-bound =
       omega (
         arith,
         subtitles-bound,
         join-bound writeParagraph 60000 (all-map (paragraphOf (formatOf mode file)) (made-bound teletext-end) (held .made)),
-        length-map (p .subtitles) (paragraphOf (formatOf mode file)),
+        length-map (p .gathered) (paragraphOf (formatOf mode file)),
       )
 
-  length-bound : length (render (documentOf (formatOf mode file) p)) ≤ 6000020000
+  length-bound : length (render (documentOf (formatOf mode file) (p .gathered))) ≤ 6000020000
   unfolding documentOf
-  length-bound = omega (arith, paragraphs-bound, render-bound (documentOf (formatOf mode file) p))
+  length-bound = omega (arith, paragraphs-bound, render-bound (documentOf (formatOf mode file) (p .gathered)))
 
-  pub spans-bound : documentSpans (map (paragraphOf (formatOf mode file)) (p .subtitles)) ≤ 6000020000
+  pub spans-bound : documentSpans (map (paragraphOf (formatOf mode file)) (p .gathered)) ≤ 6000020000
   unfolding documentOf
   spans-bound =
-      let d = documentOf (formatOf mode file) p in
+      let d = documentOf (formatOf mode file) (p .gathered) in
       omega (arith, length-bound, elements-bound (render d), elements-are-spans d)
 
   -- below 2 ^ 40
-  pub document-bound : length (render (documentOf (formatOf mode file) p)) < 1099511627776
+  pub document-bound : length (render (documentOf (formatOf mode file) (p .gathered))) < 1099511627776
   document-bound = omega (arith, length-bound)

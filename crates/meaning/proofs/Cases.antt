@@ -10,12 +10,12 @@ use Rattle.meaning.specs.declared.Answer.{Answer}
 use Rattle.meaning.specs.Lists.{all, joinMap, same, bytes}
 use Rattle.meaning.specs.declared.Format.{Format}
 use Rattle.meaning.specs.Gsi.{formatOf}
-use Rattle.meaning.specs.Sets.{Outcome, outcome}
-use Rattle.meaning.specs.Sets.Outcome.{refused, accepted}
+use Rattle.meaning.specs.Walk.{Subtitle, Outcome, outcome}
+use Rattle.meaning.specs.Walk.Outcome.{refused, accepted}
 use Rattle.meaning.specs.Document.{Paragraph, writePiece, utf8}
 use Rattle.meaning.specs.Conversion.{paragraphOf, answer}
 use Rattle.meaning.specs.Computed.{computed}
-use Rattle.meaning.proofs.Files.{Block, gsi, block, subtitle, fileOf, files}
+use Rattle.meaning.proofs.Files.{gsi, block, subtitle, fileOf, files}
 
 -- a break mode and a file, the answer's number and place, and what stands in each paragraph
 record Case : Type 0 where
@@ -25,9 +25,9 @@ record Case : Type 0 where
   place : ℕ
   paragraphs : List String
 
-paragraphsIn : Format → Outcome → List (List ℕ)
-paragraphsIn f (refused n k) = []
-paragraphsIn f (accepted p) = map (λ (q : Paragraph). joinMap writePiece (q .pieces)) (map (paragraphOf f) (p .subtitles))
+paragraphsIn : Format → Outcome (List Subtitle) → List (List ℕ)
+paragraphsIn f (refused r) = []
+paragraphsIn f (accepted p) = map (λ (q : Paragraph). joinMap writePiece (q .pieces)) (map (paragraphOf f) (p .gathered))
 
 sameTexts : List (List ℕ) → List String → Bool
 sameTexts [] [] = true
@@ -43,11 +43,11 @@ holds c =
     sameAnswer (answer (c .mode) (c .file) 65536) (c .number) (c .place)
     && sameTexts (paragraphsIn (formatOf (c .mode) (c .file)) (outcome (c .mode) (c .file))) (c .paragraphs)
 
-refusal : ℕ → List ℕ → ℕ → ℕ → Case
-refusal mode file number place = record { mode = mode; file = file; number = number; place = place; paragraphs = [] }
+refuses : ℕ → List ℕ → ℕ → ℕ → Case
+refuses mode file number place = record { mode = mode; file = file; number = number; place = place; paragraphs = [] }
 
-acceptance : ℕ → List ℕ → List String → Case
-acceptance mode file paragraphs = record { mode = mode; file = file; number = 0; place = 0; paragraphs = paragraphs }
+accepts : ℕ → List ℕ → List String → Case
+accepts mode file paragraphs = record { mode = mode; file = file; number = 0; place = 0; paragraphs = paragraphs }
 
 -- a file of one subtitle
 one : ℕ → List ℕ → List ℕ
@@ -68,35 +68,35 @@ full = replicate 64 32 ++ (138 ∷ []) ++ replicate 46 32 ++ (194 ∷ [])
 cases : List Case
 cases =
     -- TNB 00002, one block
-    refusal 1 (gsi 2 ++ block (subtitle 20 (65 ∷ []))) 6 0
+    refuses 1 (gsi 2 ++ block (subtitle 20 (65 ∷ []))) 6 0
     -- TCO equal to TCI; a second set with the same SN
-    ∷ refusal 1 (fileOf (record { sn = 1; ebn = 255; seconds = 1; frames = 2; vp = 20; cf = 0; text = 65 ∷ [] } ∷ [])) 11 0
-    ∷ refusal 1 (fileOf (subtitle 20 (65 ∷ []) ∷ subtitle 20 (65 ∷ []) ∷ [])) 9 1
+    ∷ refuses 1 (fileOf (record { sn = 1; ebn = 255; seconds = 1; frames = 2; vp = 20; cf = 0; text = 65 ∷ [] } ∷ [])) 11 0
+    ∷ refuses 1 (fileOf (subtitle 20 (65 ∷ []) ∷ subtitle 20 (65 ∷ []) ∷ [])) 9 1
     -- single height, VP 23; double height, VP 22 and 23
-    ∷ acceptance 1 (one 23 (65 ∷ [])) ("<tt:span style=\"s007\">A</tt:span>" ∷ [])
-    ∷ acceptance 1 (one 22 (13 ∷ 65 ∷ [])) ("<tt:span style=\"s071\">A</tt:span>" ∷ [])
-    ∷ refusal 1 (one 23 (13 ∷ 65 ∷ [])) 15 0
+    ∷ accepts 1 (one 23 (65 ∷ [])) ("<tt:span style=\"s007\">A</tt:span>" ∷ [])
+    ∷ accepts 1 (one 22 (13 ∷ 65 ∷ [])) ("<tt:span style=\"s071\">A</tt:span>" ∷ [])
+    ∷ refuses 1 (one 23 (13 ∷ 65 ∷ [])) 15 0
     -- C2h last in block 00h, after 112 bytes and before 8Fh; 65h first in block FFh
-    ∷ acceptance 1 (two 22 full (101 ∷ [])) ("<tt:br/><tt:span style=\"s007\">é</tt:span>" ∷ [])
-    ∷ acceptance 1 (two 23 (194 ∷ []) (101 ∷ [])) ("<tt:span style=\"s007\">é</tt:span>" ∷ [])
+    ∷ accepts 1 (two 22 full (101 ∷ [])) ("<tt:br/><tt:span style=\"s007\">é</tt:span>" ∷ [])
+    ∷ accepts 1 (two 23 (194 ∷ []) (101 ∷ [])) ("<tt:span style=\"s007\">é</tt:span>" ∷ [])
     -- C2h, 20h
-    ∷ refusal 1 (one 23 (194 ∷ 32 ∷ [])) 13 0
+    ∷ refuses 1 (one 23 (194 ∷ 32 ∷ [])) 13 0
     -- 64 cells and 65
-    ∷ acceptance 1 (one 23 (replicate 63 32 ++ (65 ∷ []))) ("<tt:span style=\"s007\">A</tt:span>" ∷ [])
-    ∷ refusal 1 (one 23 (replicate 64 32 ++ (65 ∷ []))) 15 0
+    ∷ accepts 1 (one 23 (replicate 63 32 ++ (65 ∷ []))) ("<tt:span style=\"s007\">A</tt:span>" ∷ [])
+    ∷ refuses 1 (one 23 (replicate 64 32 ++ (65 ∷ []))) 15 0
     -- double height, a lone 8Ah between words
-    ∷ acceptance 1 (one 20 (13 ∷ 65 ∷ 138 ∷ 66 ∷ [])) ("<tt:span style=\"s071\">A</tt:span><tt:br/><tt:span style=\"s071\">B</tt:span>" ∷ [])
-    ∷ refusal 2 (one 20 (13 ∷ 65 ∷ 138 ∷ 66 ∷ [])) 14 0
+    ∷ accepts 1 (one 20 (13 ∷ 65 ∷ 138 ∷ 66 ∷ [])) ("<tt:span style=\"s071\">A</tt:span><tt:br/><tt:span style=\"s071\">B</tt:span>" ∷ [])
+    ∷ refuses 2 (one 20 (13 ∷ 65 ∷ 138 ∷ 66 ∷ [])) 14 0
     -- spans
-    ∷ acceptance 1 (one 23 (1 ∷ 65 ∷ 2 ∷ 3 ∷ 66 ∷ [])) ("<tt:span style=\"s001\">A  </tt:span><tt:span style=\"s003\">B</tt:span>" ∷ [])
-    ∷ acceptance 1 (one 23 (1 ∷ 65 ∷ 7 ∷ 32 ∷ 1 ∷ 66 ∷ [])) ("<tt:span style=\"s001\">A   B</tt:span>" ∷ [])
-    ∷ acceptance 1 (one 23 (1 ∷ 29 ∷ 7 ∷ 65 ∷ [])) ("<tt:span style=\"s015\">  A</tt:span>" ∷ [])
+    ∷ accepts 1 (one 23 (1 ∷ 65 ∷ 2 ∷ 3 ∷ 66 ∷ [])) ("<tt:span style=\"s001\">A  </tt:span><tt:span style=\"s003\">B</tt:span>" ∷ [])
+    ∷ accepts 1 (one 23 (1 ∷ 65 ∷ 7 ∷ 32 ∷ 1 ∷ 66 ∷ [])) ("<tt:span style=\"s001\">A   B</tt:span>" ∷ [])
+    ∷ accepts 1 (one 23 (1 ∷ 29 ∷ 7 ∷ 65 ∷ [])) ("<tt:span style=\"s015\">  A</tt:span>" ∷ [])
     -- a comment set with frame 99
-    ∷ acceptance 1 (fileOf (record { sn = 1; ebn = 255; seconds = 1; frames = 99; vp = 20; cf = 1; text = 65 ∷ [] } ∷ [])) []
+    ∷ accepts 1 (fileOf (record { sn = 1; ebn = 255; seconds = 1; frames = 99; vp = 20; cf = 1; text = 65 ∷ [] } ∷ [])) []
     -- not in document 01's list: what stands after 8Fh is no text
-    ∷ acceptance 1 (one 23 (65 ∷ 143 ∷ 66 ∷ [])) ("<tt:span style=\"s007\">A</tt:span>" ∷ [])
+    ∷ accepts 1 (one 23 (65 ∷ 143 ∷ 66 ∷ [])) ("<tt:span style=\"s007\">A</tt:span>" ∷ [])
     ∷ []
 
 right : T (all holds cases)
-unfolding computed files paragraphsIn sameTexts sameAnswer holds refusal acceptance one two full cases
+unfolding computed files paragraphsIn sameTexts sameAnswer holds refuses accepts one two full cases
 right = tt

@@ -8,9 +8,9 @@ use lib.ListN.{length, take}
 use Rattle.meaning.specs.declared.Answer.{Answer}
 use Rattle.meaning.specs.Gsi.{formatOf, blockCount}
 use Rattle.meaning.specs.declared.Format.{Format}
-use Rattle.meaning.specs.Sets.{Subtitle, Outcome, outcome, subtitlesOf}
+use Rattle.meaning.specs.Walk.{Subtitle, outcome, subtitlesOf}
 use Rattle.meaning.specs.Document.{Document, render, documentSpans}
-use Rattle.meaning.specs.Conversion.{documentOf, acceptance, answer, output}
+use Rattle.meaning.specs.Conversion.{documentOf, acceptedAnswer, answer, output}
 use Rattle.meaning.specs.Profile.{inProfile, Writes, Shows, spanElements}
 use Rattle.meaning.specs.Demands.{Bytes, FewestSpans}
 use Rattle.meaning.proofs.Logic.{and-true}
@@ -32,7 +32,7 @@ module _ (mode : ℕ) (file : List ℕ) (b : Bytes file) (buffer : List ℕ) (e 
   taken = accepted-file Bytes mode file (file-bytes (blockCount file) 1024 file b) buffer e
 
   own : Document
-  own = documentOf (formatOf mode file) (taken .progress)
+  own = documentOf (formatOf mode file) (taken .progress .gathered)
 
   own-written : Writes (take (answer mode file (length buffer) .length) (output mode file buffer)) own
   unfolding own inProfile documentOf formatOf
@@ -40,7 +40,7 @@ module _ (mode : ℕ) (file : List ℕ) (b : Bytes file) (buffer : List ℕ) (e 
       record {
         profile =
             and-true _ _ (rate-right mode file (rule-kept mode file (taken .progress) (taken .came)))
-            (own-paragraphs (formatOf mode file) 0 _ (taken .progress .subtitles) (taken .held .made) (taken .held .order));
+            (own-paragraphs (formatOf mode file) 0 _ (taken .progress .gathered) (taken .held .made) (taken .held .ready .order));
         bytes = front-is-document taken;
       }
 
@@ -48,20 +48,20 @@ module _ (mode : ℕ) (file : List ℕ) (b : Bytes file) (buffer : List ℕ) (e 
   unfolding own documentOf subtitlesOf
   own-rows =
       rw (taken .came)
-      (own-shows (formatOf mode file) (taken .progress .subtitles) (all-sound (formatOf mode file) (taken .held .made)))
+      (own-shows (formatOf mode file) (taken .progress .gathered) (all-sound (formatOf mode file) (taken .held .made)))
 
   own-count : answer mode file (length buffer) .spans ≡ documentSpans (own .paragraphs)
-  unfolding own acceptance
+  unfolding own acceptedAnswer
   own-count = ap (λ (a : Answer). a .spans) (taken .answered)
 
   others : (other : List ℕ) (d : Document) → other ≡ render d → Shows d (subtitlesOf (outcome mode file)) → answer mode file (length buffer) .spans ≤ spanElements other
   unfolding own documentOf subtitlesOf
   others other d w s =
-      let t : Shows d (taken .progress .subtitles) = rw (taken .came) at s in
+      let t : Shows d (taken .progress .gathered) = rw (taken .came) at s in
       omega (
         arith,
         own-count,
-        document-fewest (formatOf mode file) d (taken .progress .subtitles) t,
+        document-fewest (formatOf mode file) d (taken .progress .gathered) t,
         ap spanElements w ∙ elements-are-spans d,
       )
 

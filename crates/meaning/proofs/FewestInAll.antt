@@ -9,7 +9,7 @@ use Rattle.meaning.specs.declared.Format.{Format}
 use Rattle.meaning.specs.Lists.{ontoFirst, joinMap}
 use Rattle.meaning.specs.Cells.{Cell, shown}
 use Rattle.meaning.specs.Spans.{spans}
-use Rattle.meaning.specs.Sets.{Subtitle}
+use Rattle.meaning.specs.Walk.{Subtitle}
 use Rattle.meaning.specs.Document.{Span, Piece, Paragraph, Document, looksOf, documentLooks, countSpans, documentSpans}
 use Rattle.meaning.specs.Document.Piece.{span, br}
 use Rattle.meaning.specs.Conversion.{spanOf, rowSpans, laterRows, rowPieces, paragraphOf}

@@ -1,7 +1,6 @@
 -- Files to compute with, made from what varies in them.
 -- Assumes nothing.
 use Prim.Native.Nat.{ℕ, _-_}
-use Prim.Native.String.{String}
 use mathlib.Core.List.{List, [], _∷_, _++_}
 use lib.ListN.{length, replicate}
 use Rattle.meaning.specs.Lists.{bytes}

@@ -3,6 +3,7 @@ pub mod Example
 pub mod Cases
 pub mod Logic
 pub mod ListLaws
+pub mod RefusalLaws
 pub mod Letters
 pub mod LookLaws
 pub mod Fitting
@@ -12,8 +13,10 @@ pub mod Pieces
 pub mod FewestInAll
 pub mod Elements
 pub mod Steps
+pub mod Gathering
 pub mod Walk
 pub mod Tokens
+pub mod Texts
 pub mod CellFacts
 pub mod OwnRows
 pub mod OwnProfile

@@ -1,13 +1,15 @@
 -- A property of every element of a list, and laws of the tests over lists.
 -- Assumes nothing.
-use Prim.Native.Nat.{ℕ, zero, suc, _<_}
+use Prim.Native.Nat.{ℕ, zero, suc, _+_, _≤_, _<_}
 use native.Mathlib.Omega.{arith}
+use native.Mathlib.Numerals.{add-one}
 use native.Mathlib.Nat.{le-of-suc-le-suc, not-suc-le-zero}
 use mathlib.Core.Path.{_≡_, refl, sym, ap, _∙_}
-use mathlib.Core.Bool.{Bool, true, false, _&&_, _||_}
+use mathlib.Core.Bool.{Bool, true, false, _&&_, _||_, and-false, or-true}
 use mathlib.Core.List.{List, [], _∷_, _++_, map, append-assoc}
-use lib.ListN.{length, getD, replicate}
-use Rattle.meaning.specs.Lists.{all, any, ontoFirst, joinMap, firstBroken}
+use lib.ListN.{length, getD, take, drop, replicate, length-take, drop-of-length-le}
+use lib.Seq.{drop-cons}
+use Rattle.meaning.specs.Lists.{all, any, takeWhile, ontoFirst, joinMap}
 use Rattle.meaning.proofs.Logic.{by-test, false-not-true}
 
 -- tests over a list, one element at a time
@@ -20,9 +22,33 @@ module _ {A : Type 0} (p : A → Bool) (x : A) (xs : List A) where
   unfolding any
   any-cons = by-test (p x) (λ e. rw (e, any)) (λ e. rw (e, any))
 
+-- and at the end of a list
+module _ {A : Type 0} (p : A → Bool) where
+  pub all-end : (xs : List A) (x : A) → all p (xs ++ (x ∷ [])) ≡ (p x && all p xs)
+  all-end [] x = all-cons p x []
+  all-end (y ∷ xs) x =
+      by-test (p y)
+      (λ e. rw (all-cons p y (xs ++ (x ∷ [])), all-cons p y xs, e) (all-end xs x))
+      (λ e. rw (all-cons p y (xs ++ (x ∷ [])), all-cons p y xs, e) (sym (and-false (p x))))
+
+  pub any-end : (xs : List A) (x : A) → any p (xs ++ (x ∷ [])) ≡ (p x || any p xs)
+  any-end [] x = any-cons p x []
+  any-end (y ∷ xs) x =
+      by-test (p y)
+      (λ e. rw (any-cons p y (xs ++ (x ∷ [])), any-cons p y xs, e) (sym (or-true (p x))))
+      (λ e. rw (any-cons p y (xs ++ (x ∷ [])), any-cons p y xs, e) (any-end xs x))
+
 pub data All {A : Type 0} (P : A → Type 0) : List A → Type 0 where
   nil : All P []
   cons : {x : A} {xs : List A} → P x → All P xs → All P (x ∷ xs)
+
+-- nothing is asked
+abbrev pub Any : List ℕ → Type 0
+Any b = Unit {0}
+
+pub any-blocks : (bs : List (List ℕ)) → All Any bs
+any-blocks [] = nil
+any-blocks (b ∷ bs) = cons tt (any-blocks bs)
 
 module _ {A : Type 0} {P : A → Type 0} where
   pub all-append : {xs ys : List A} → All P xs → All P ys → All P (xs ++ ys)
@@ -92,11 +118,32 @@ module _ {A : Type 0} (p : A → Bool) where
   test-all nil = test-nil
   test-all (cons {x} {xs} e h) = test-cons x xs e (test-all h)
 
--- where no rule of a list is broken, each holds
-pub unbroken : (n : ℕ) (b : Bool) (rs : List (ℕ × Bool)) → firstBroken ((suc n, b) ∷ rs) ≡ 0 → (b ≡ true) × (firstBroken rs ≡ 0)
-unfolding firstBroken
-unbroken n true rs e = (refl, e)
-unbroken n false rs e = absurd (no-number e)
-  where
-    no-number : suc n ≡ 0 → ⊥
-    no-number z = omega arith
+-- the elements before the first that fails a test
+module _ {A : Type 0} (p : A → Bool) where
+  pub while-on : (x : A) (xs : List A) → p x ≡ true → takeWhile p (x ∷ xs) ≡ x ∷ takeWhile p xs
+  unfolding takeWhile
+  while-on x xs e = rw (e, takeWhile)
+
+  pub while-off : (x : A) (xs : List A) → p x ≡ false → takeWhile p (x ∷ xs) ≡ []
+  unfolding takeWhile
+  while-off x xs e = rw (e, takeWhile)
+
+  pub take-while : (xs : List A) → take (length (takeWhile p xs)) xs ≡ takeWhile p xs
+  unfolding takeWhile
+  take-while [] = refl
+  take-while (x ∷ xs) = by-test (p x) (λ e. rw (while-on x xs e, take-while xs)) (λ e. rw (while-off x xs e))
+
+  pub while-short : (xs : List A) → length (takeWhile p xs) ≤ length xs
+  while-short xs = omega (arith, simp length-take at (ap length (take-while xs)))
+
+  -- how many there are from a place on, as a loop meets them: one more, none at an element that fails, none at the end
+  module _ (xs : List A) (i : ℕ) (d : A) where
+    pub while-more : i < length xs → p (getD xs i d) ≡ true → length (takeWhile p (drop i xs)) ≡ 1 + length (takeWhile p (drop (i + 1) xs))
+    while-more h e = rw (add-one, drop-cons xs i d h, while-on (getD xs i d) (drop (suc i) xs) e) (omega arith)
+
+    pub while-stops : i < length xs → p (getD xs i d) ≡ false → length (takeWhile p (drop i xs)) ≡ 0
+    while-stops h e = rw (drop-cons xs i d h, while-off (getD xs i d) (drop (suc i) xs) e)
+
+  pub while-ends : (xs : List A) (i : ℕ) → length xs ≤ i → length (takeWhile p (drop i xs)) ≡ 0
+  unfolding takeWhile
+  while-ends xs i h = rw drop-of-length-le

@@ -3,7 +3,7 @@
 use Prim.Native.Nat.{ℕ, zero, suc, _<_}
 use native.Mathlib.Omega.{arith}
 use mathlib.Core.Path.{_≡_, refl}
-use mathlib.Core.Bool.{Bool, true, false}
+use mathlib.Core.Bool.{true, false}
 use mathlib.Core.List.{List, [], _∷_, map}
 use lib.ListN.{take, drop}
 use borrow.Author.Tests.{lt-ltb, le-leb}
@@ -13,17 +13,18 @@ use Rattle.meaning.specs.Codes.{tokens}
 use Rattle.meaning.specs.Rows.{isDouble}
 use Rattle.meaning.specs.Cells.{Cell, newPen, shown}
 use Rattle.meaning.specs.Spans.{lookOf}
-use Rattle.meaning.specs.Blocks.{blocks, headerOf, timesRight, isComment, firstBlockRule}
+use Rattle.meaning.specs.Blocks.{blocks, headerOf, timesRight, isComment, subtitleRules, firstBlockRules}
 use Rattle.meaning.specs.declared.Header.{Header}
 use Rattle.meaning.specs.declared.Format.{Format}
-use Rattle.meaning.specs.Sets.{Subtitle, subtitleOf}
-use Rattle.meaning.specs.Document.{Piece, Paragraph}
+use Rattle.meaning.specs.Walk.{Subtitle, subtitleOf}
+use Rattle.meaning.specs.Document.{Piece}
 use Rattle.meaning.specs.Document.Piece.{span, br}
 use Rattle.meaning.specs.Conversion.{spanOf, rowSpans, laterRows, rowPieces, paragraphOf}
 use Rattle.meaning.specs.Profile.{isScalar, pieceInProfile, paragraphsInProfile}
 use Rattle.meaning.specs.Demands.{Bytes}
 use Rattle.meaning.proofs.Logic.{and-true}
-use Rattle.meaning.proofs.ListLaws.{All, all-append, all-copies, all-map, test-all, unbroken}
+use Rattle.meaning.proofs.ListLaws.{All, all-append, all-copies, all-map, test-all}
+use Rattle.meaning.proofs.RefusalLaws.{Holds, unbroken}
 use Rattle.meaning.proofs.ListLaws.All.{nil, cons}
 use Rattle.meaning.proofs.Pieces.{fillersOf, pieces-are}
 use Rattle.meaning.proofs.Trimming.{all-shown}
@@ -83,13 +84,11 @@ pieces-right f s h = rw (pieces-are f s) (test-all pieceInProfile (all-append (r
 
 -- rule 11
 times-right :
-    (f : Format) (least : ℕ) (h : Header) → isComment h ≡ false → firstBlockRule f least h ≡ 0 → timesRight (f .rate) (h .tci) (h .tco) ≡ true
-unfolding firstBlockRule
-times-right f least h c e =
-    let r₈ = unbroken _ _ _ e in
-    let r₉ = unbroken _ _ _ (r₈ .1) in
-    let r₁₀ = unbroken _ _ _ (rw c at (r₉ .1)) in
-    unbroken _ _ _ (r₁₀ .1) .0
+    (f : Format) (place least : ℕ) (h : Header) → isComment h ≡ false → Holds place (firstBlockRules f least h) → timesRight (f .rate) (h .tci) (h .tco) ≡ true
+unfolding firstBlockRules subtitleRules
+times-right f place least h c e =
+    let r = rw c at (unbroken _ _ _ _ (unbroken _ _ _ _ e .1) .1) in
+    unbroken _ _ _ _ (unbroken _ _ _ _ r .1) .0
 
 sn-right : (b : List ℕ) → Bytes b → headerOf b .sn < 65536
 unfolding headerOf
@@ -112,6 +111,6 @@ own-paragraphs f lo hi (s ∷ ss) (cons m k) a =
     (and-true _ _
     (and-true _ _
     (and-true _ _ (le-leb lo (s .first .sn) (a .0)) (lt-ltb (s .first .sn) 65536 (opened-sn (m .opened))))
-    (times-right f (m .opened .least) (s .first) (m .subtitle) (m .opened .rule)))
+    (times-right f (m .opened .place) (m .opened .least) (s .first) (m .subtitle) (m .opened .rules)))
     (pieces-right f s (made-sound f s m)))
     (own-paragraphs f _ hi ss k (a .1))

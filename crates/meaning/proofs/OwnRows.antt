@@ -2,17 +2,17 @@
 -- Assumes nothing.
 use Prim.Native.Nat.{ℕ, zero, suc}
 use mathlib.Core.Path.{_≡_, refl, sym, ap, subst, _∙_}
-use mathlib.Core.Bool.{true, false}
+use mathlib.Core.Bool.{true}
 use mathlib.Core.List.{List, [], _∷_, _++_, map, append-assoc}
 use lib.ListN.{getD, replicate}
 use Rattle.meaning.specs.declared.Look.{Look}
 use Rattle.meaning.specs.declared.Format.{Format}
-use Rattle.meaning.specs.Lists.{all, ontoFirst}
+use Rattle.meaning.specs.Lists.{ontoFirst}
 use Rattle.meaning.specs.Looks.{pack, unpack, shared, free}
 use Rattle.meaning.specs.Cells.{Cell, shown}
-use Rattle.meaning.specs.Spans.{fits, lookOf, uniform, spansFrom, spans}
-use Rattle.meaning.specs.Sets.{Subtitle}
-use Rattle.meaning.specs.Document.{Span, Piece, Paragraph, Document}
+use Rattle.meaning.specs.Spans.{lookOf, uniform, spansFrom, spans}
+use Rattle.meaning.specs.Walk.{Subtitle}
+use Rattle.meaning.specs.Document.{Span, Piece}
 use Rattle.meaning.specs.Document.Piece.{span, br}
 use Rattle.meaning.specs.Conversion.{spanOf, rowSpans, laterRows, rowPieces, paragraphOf}
 use Rattle.meaning.specs.Profile.{documentRows, spanCells, rowCells, SameCell, SameCells, subtitleRow, paragraphRow, Shows}

@@ -5,10 +5,8 @@ use mathlib.Core.Path.{_≡_, refl}
 use mathlib.Core.List.{_++_}
 use lib.ListN.{replicate}
 use Rattle.meaning.specs.Rows.{linesOf, rowCount}
-use Rattle.meaning.specs.declared.Header.{Header}
 use Rattle.meaning.specs.declared.Format.{Format}
-use Rattle.meaning.specs.Sets.{Subtitle}
-use Rattle.meaning.specs.Document.{Paragraph}
+use Rattle.meaning.specs.Walk.{Subtitle}
 use Rattle.meaning.specs.Document.Piece.{br}
 use Rattle.meaning.specs.Conversion.{rowPieces, fillers, pieces, paragraphOf}
 

@@ -3,7 +3,7 @@
 use Prim.Native.Nat.{ℕ}
 use mathlib.Core.Path.{_≡_, refl}
 use mathlib.Core.Bool.{true, false}
-use mathlib.Core.List.{List, [], _∷_}
+use mathlib.Core.List.{List, _∷_}
 use Rattle.meaning.specs.Codes.{codeToken, pairToken, isAccent, tokens}
 
 module _ (c d : ℕ) (cs : List ℕ) where

@@ -1,7 +1,7 @@
 -- Shown cells: the trimming clause by clause, what is trimmed stays so, and cells that are the same are trimmed alike.
 -- Assumes nothing.
 use mathlib.Core.Path.{_≡_, refl, ap, _∙_}
-use mathlib.Core.Bool.{Bool, true, false}
+use mathlib.Core.Bool.{true, false}
 use mathlib.Core.List.{List, [], _∷_}
 use Rattle.meaning.specs.Cells.{Cell, isBlank, isBlankOnBlack, trimFront, beforeTrimmed, trimBack, shown}
 use Rattle.meaning.specs.Profile.{SameCell, SameCells}

@@ -1,7 +1,7 @@
 -- A TTI block of 128 bytes: its header, its text, and the rules 8 to 12: document 01, "The file" and "What comes back".
 -- Assumes nothing.
 use Prim.Native.Nat.{ℕ, zero, suc, _+_, _*_}
-use mathlib.Core.Bool.{Bool, true, false, cond, _&&_}
+use mathlib.Core.Bool.{Bool, cond, not, _&&_}
 use mathlib.Core.List.{List, [], _∷_}
 use lib.Dec.{ltb, leb, eqb}
 use lib.ListN.{getD, take, drop}
@@ -9,7 +9,7 @@ use Rattle.meaning.specs.declared.Time.{Time}
 use Rattle.meaning.specs.declared.Header.{Header}
 use Rattle.meaning.specs.declared.Screen.{Screen}
 use Rattle.meaning.specs.declared.Format.{Format}
-use Rattle.meaning.specs.Lists.{firstBroken}
+use Rattle.meaning.specs.Lists.{takeWhile, field}
 
 -- n blocks, one after another
 unfoldable pub blocks : ℕ → List ℕ → List (List ℕ)
@@ -39,14 +39,13 @@ headerOf b =
       cf = getD b 15 0;
     }
 
--- the bytes before the first 8Fh
-unfoldable pub beforeEnd : List ℕ → List ℕ
-beforeEnd [] = []
-beforeEnd (c ∷ cs) = elim (eqb c 143) [ true ↦ [] | false ↦ c ∷ beforeEnd cs ]
+-- 8Fh ends a text
+unfoldable pub inText : ℕ → Bool
+inText c = not (eqb c 143)
 
--- a block's text, 16 to 127: all 112 bytes if there is no 8Fh
+-- a block's text, 16 to 127: the bytes before the first 8Fh, all 112 if there is none
 unfoldable pub blockText : List ℕ → List ℕ
-blockText b = beforeEnd (drop 16 b)
+blockText b = takeWhile inText (field 16 112 b)
 
 unfoldable pub timeInRange : ℕ → Time → Bool
 timeInRange rate t = ltb (t .hours) 24 && ltb (t .minutes) 60 && ltb (t .seconds) 60 && ltb (t .frames) rate
@@ -62,15 +61,13 @@ timesRight rate start stop =
 unfoldable pub isComment : Header → Bool
 isComment h = eqb (h .cf) 1
 
--- the number of the first of the rules 8 to 12 that a set's first block breaks, or 0; a comment is tested for 8 and 9 only.
--- `least` is the least SN that rule 9 allows.
-unfoldable pub firstBlockRule : Format → ℕ → Header → ℕ
-firstBlockRule f least h =
-    firstBroken
-    ((8, leb (h .cf) 1)
-    ∷ (9, leb least (h .sn))
-    ∷ cond (isComment h) []
-    ((10, eqb (h .cs) 0)
-    ∷ (11, timesRight (f .rate) (h .tci) (h .tco))
-    ∷ (12, leb (f .screen .first) (h .vp) && ltb (h .vp) (f .screen .end) && leb (h .jc) 3)
-    ∷ []))
+unfoldable pub isPlaced : Screen → ℕ → ℕ → Bool
+isPlaced s vp jc = leb (s .first) vp && ltb vp (s .end) && leb jc 3
+
+-- the rules 10 to 12; a comment is not tested for them
+unfoldable pub subtitleRules : Format → Header → List (ℕ × Bool)
+subtitleRules f h = (10, eqb (h .cs) 0) ∷ (11, timesRight (f .rate) (h .tci) (h .tco)) ∷ (12, isPlaced (f .screen) (h .vp) (h .jc)) ∷ []
+
+-- the rules 8 to 12 over a set's first block. `least` is the least SN that rule 9 allows.
+unfoldable pub firstBlockRules : Format → ℕ → Header → List (ℕ × Bool)
+firstBlockRules f least h = (8, leb (h .cf) 1) ∷ (9, leb least (h .sn)) ∷ cond (isComment h) [] (subtitleRules f h)

@@ -14,9 +14,10 @@ use Rattle.meaning.specs.Cells.{Cell, points, shown}
 use Rattle.meaning.specs.Spans.{spans, lookOf}
 use Rattle.meaning.specs.declared.Format.{Format}
 use Rattle.meaning.specs.Gsi.{formatOf}
-use Rattle.meaning.specs.declared.Header.{Header}
-use Rattle.meaning.specs.Sets.{Subtitle, Progress, Outcome, outcome}
-use Rattle.meaning.specs.Sets.Outcome.{refused, accepted}
+use Rattle.meaning.specs.declared.Refusal.{Refusal}
+use Rattle.meaning.specs.declared.Counts.{Counts}
+use Rattle.meaning.specs.Walk.{Subtitle, Outcome, outcome}
+use Rattle.meaning.specs.Walk.Outcome.{refused, accepted}
 use Rattle.meaning.specs.Document.{Span, Piece, Alignment, Paragraph, Document, render, documentSpans}
 use Rattle.meaning.specs.Document.Piece.{span, br}
 use Rattle.meaning.specs.Document.Alignment.{left, centre, right}
@@ -62,41 +63,45 @@ paragraphOf f s =
     }
 
 -- every subtitle is one paragraph, in order
-unfoldable pub documentOf : Format → Progress → Document
-documentOf f p = record { rate = f .rate; paragraphs = map (paragraphOf f) (p .subtitles) }
+unfoldable pub documentOf : Format → List Subtitle → Document
+documentOf f ss = record { rate = f .rate; paragraphs = map (paragraphOf f) ss }
 
-unfoldable pub refusal : ℕ → ℕ → ℕ → Answer
-refusal number place needed =
-    record { number = number; place = place; length = needed; subtitles = 0; comments = 0; continuations = 0; users = 0; spans = 0 }
+-- the answer to a refused file; refusal 16 tells the length needed
+unfoldable pub refusedAnswer : Refusal → ℕ → Answer
+refusedAnswer r needed =
+    record { number = r .number; place = r .place; length = needed; subtitles = 0; comments = 0; continuations = 0; users = 0; spans = 0 }
 
-unfoldable pub acceptance : ℕ → Progress → ℕ → Answer
-acceptance written p spans =
+unfoldable pub acceptedAnswer : ℕ → Counts → ℕ → Answer
+acceptedAnswer written c spans =
     record {
       number = 0;
       place = 0;
       length = written;
-      subtitles = p .assembly .counts .subtitles;
-      comments = p .assembly .counts .comments;
-      continuations = p .assembly .counts .continuations;
-      users = p .assembly .counts .users;
+      subtitles = c .subtitles;
+      comments = c .comments;
+      continuations = c .continuations;
+      users = c .users;
       spans = spans;
     }
 
-unfoldable pub answerTo : Format → ℕ → Outcome → Answer
-answerTo f room (refused n k) = refusal n k 0
+-- the answer to a file within the rules 1 to 15, by its counts and its document's length and spans
+unfoldable pub answerBy : ℕ → Counts → ℕ → ℕ → Answer
+answerBy room c n spans = elim (leb n room) [ true ↦ acceptedAnswer n c spans | false ↦ refusedAnswer (record { number = 16; place = 0 }) n ]
+
+unfoldable pub answerTo : Format → ℕ → Outcome (List Subtitle) → Answer
+answerTo f room (refused r) = refusedAnswer r 0
 answerTo f room (accepted p) =
-    let d = documentOf f p in
-    let n = length (render d) in
-    elim (leb n room) [ true ↦ acceptance n p (documentSpans (d .paragraphs)) | false ↦ refusal 16 0 n ]
+    let d = documentOf f (p .gathered) in
+    answerBy room (p .counts) (length (render d)) (documentSpans (d .paragraphs))
 
 -- what comes back for a break mode, a file, and a buffer of some length
 unfoldable pub answer : ℕ → List ℕ → ℕ → Answer
 answer mode file room = answerTo (formatOf mode file) room (outcome mode file)
 
-unfoldable pub bufferAfter : Format → List ℕ → Outcome → List ℕ
-bufferAfter f buffer (refused n k) = buffer
+unfoldable pub bufferAfter : Format → List ℕ → Outcome (List Subtitle) → List ℕ
+bufferAfter f buffer (refused r) = buffer
 bufferAfter f buffer (accepted p) =
-    let d = render (documentOf f p) in
+    let d = render (documentOf f (p .gathered)) in
     elim (leb (length d) (length buffer)) [ true ↦ d ++ drop (length d) buffer | false ↦ buffer ]
 
 -- what the buffer holds at the end: untouched after a refusal; else the document, and the bytes after it untouched

@@ -5,7 +5,7 @@ use mathlib.Core.Path.{_≡_}
 use mathlib.Core.List.{List}
 use lib.ListN.{getD, take}
 use Rattle.meaning.specs.declared.Answer.{Answer}
-use Rattle.meaning.specs.Sets.{subtitlesOf, outcome}
+use Rattle.meaning.specs.Walk.{subtitlesOf, outcome}
 use Rattle.meaning.specs.Document.{Document, render}
 use Rattle.meaning.specs.Profile.{Writes, Shows, spanElements}
 

@@ -1,12 +1,10 @@
 -- A document of our profile, as what varies in it and as bytes: document 01, "The document, whole".
 -- Assumes nothing.
 use Prim.Native.Nat.{ℕ, zero, suc, _+_, _/_, _%_}
-use Prim.Native.String.{String}
 use mathlib.Core.Bool.{Bool, true, false, cond}
 use mathlib.Core.List.{List, [], _∷_, _++_}
 use lib.Dec.{ltb, eqb}
 use lib.ListN.{length}
-use Rattle.meaning.specs.declared.Look.{Look}
 use Rattle.meaning.specs.Lists.{any, keep, joinMap, joined, upFrom, bytes}
 use Rattle.meaning.specs.Looks.{lookCount, unpack}
 use Rattle.meaning.specs.declared.Time.{Time}

@@ -4,14 +4,12 @@ use Prim.Native.Nat.{ℕ, _+_, _*_, _-_, _/_, _%_}
 use mathlib.Core.Bool.{Bool, true, false, _&&_, _||_}
 use mathlib.Core.List.{List, [], _∷_}
 use lib.Dec.{leb, eqb}
-use lib.ListN.{length, getD, take, drop}
+use lib.ListN.{length, getD}
 use Rattle.meaning.specs.declared.Screen.{Screen}
 use Rattle.meaning.specs.declared.Format.{Format}
-use Rattle.meaning.specs.Lists.{all, same, bytes, firstBroken}
-
--- n bytes from an offset
-unfoldable pub field : ℕ → ℕ → List ℕ → List ℕ
-field from n s = take n (drop from s)
+use Rattle.meaning.specs.declared.Refusal.{Refusal}
+use Rattle.meaning.specs.Lists.{all, field, same, bytes}
+use Rattle.meaning.specs.Refusals.{firstBroken}
 
 -- DFC, 3 to 10: the frames of a second, 0 where it is neither of the two
 unfoldable pub rateOf : List ℕ → ℕ
@@ -48,10 +46,10 @@ valueFrom v (c ∷ cs) = valueFrom (10 * v + (c - 48)) cs
 unfoldable pub tnb : List ℕ → ℕ
 tnb file = valueFrom 0 (field 238 5 file)
 
--- the number of the first of the rules 1 to 6 that a break mode and a file break, or 0
-unfoldable pub fileRule : ℕ → List ℕ → ℕ
+-- the first of the rules 1 to 6 that a break mode and a file break
+unfoldable pub fileRule : ℕ → List ℕ → Refusal
 fileRule mode file =
-    firstBroken
+    firstBroken 0
     ((1, eqb mode 1 || eqb mode 2)
     ∷ (2, leb 1024 (length file) && eqb ((length file - 1024) % 128) 0)
     ∷ (3, isRate (rateOf file))

@@ -1,4 +1,5 @@
 pub mod Lists
+pub mod Refusals
 pub mod Tables
 pub mod Characters
 pub mod Codes
@@ -9,6 +10,7 @@ pub mod Spans
 pub mod Gsi
 pub mod Blocks
 pub mod Sets
+pub mod Walk
 pub mod Document
 pub mod Conversion
 pub mod Profile

@@ -1,4 +1,4 @@
--- Tests over lists, joining, and rules in their order.
+-- Tests over lists, parts of lists, and joining.
 -- Assumes nothing.
 use Prim.Native.Nat.{ℕ, zero, suc}
 use Prim.Native.Char.{code}
@@ -7,6 +7,7 @@ use Prim.Native.String
 use mathlib.Core.Bool.{Bool, true, false}
 use mathlib.Core.List.{List, [], _∷_, _++_}
 use lib.Dec.{eqb}
+use lib.ListN.{take, drop}
 
 module _ {A : Type 0} where
   unfoldable pub all : (A → Bool) → List A → Bool
@@ -22,6 +23,11 @@ module _ {A : Type 0} where
   keep p [] = []
   keep p (x ∷ xs) = elim (p x) [ true ↦ x ∷ keep p xs | false ↦ keep p xs ]
 
+  -- the elements before the first that fails a test
+  unfoldable pub takeWhile : (A → Bool) → List A → List A
+  takeWhile p [] = []
+  takeWhile p (x ∷ xs) = elim (p x) [ true ↦ x ∷ takeWhile p xs | false ↦ [] ]
+
   -- one more element at the head of the first list
   unfoldable pub ontoFirst : A → List (List A) → List (List A)
   ontoFirst x [] = (x ∷ []) ∷ []
@@ -36,6 +42,10 @@ module _ {A : Type 0} where
   unfoldable pub joinMap : (A → List ℕ) → List A → List ℕ
   joinMap f [] = []
   joinMap f (x ∷ xs) = f x ++ joinMap f xs
+
+-- n bytes from an offset
+unfoldable pub field : ℕ → ℕ → List ℕ → List ℕ
+field from n s = take n (drop from s)
 
 -- parts joined, in order
 unfoldable pub joined : List (List ℕ) → List ℕ
@@ -58,8 +68,3 @@ upFrom (suc k) n = n ∷ upFrom k (suc n)
 unfoldable pub bytes : String → List ℕ
 bytes String.[] = []
 bytes (String._∷_ c s) = code c ∷ bytes s
-
--- The number of the first rule of a list that fails, or 0. A rule is its number and its test.
-unfoldable pub firstBroken : List (ℕ × Bool) → ℕ
-firstBroken [] = 0
-firstBroken (r ∷ rs) = elim (r .1) [ true ↦ firstBroken rs | false ↦ r .0 ]

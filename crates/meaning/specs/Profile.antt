@@ -1,18 +1,17 @@
 -- Documents of the profile, their rows, and when one shows a file's rows: document 01, "The document, whole".
 -- Assumes nothing.
-use Prim.Native.Nat.{ℕ, zero, suc}
+use Prim.Native.Nat.{ℕ, suc}
 use mathlib.Core.Path.{_≡_}
 use mathlib.Core.Bool.{Bool, true, false, _&&_, _||_}
 use mathlib.Core.List.{List, [], _∷_, _++_, map}
 use lib.Dec.{ltb, leb, eqb}
 use lib.ListN.{getD}
-use Rattle.meaning.specs.declared.Look.{Look}
 use Rattle.meaning.specs.Lists.{all, ontoFirst, bytes}
 use Rattle.meaning.specs.Looks.{lookCount, unpack, shared, free}
 use Rattle.meaning.specs.Cells.{Cell, glyphs, isBlank, shown}
 use Rattle.meaning.specs.Gsi.{isRate}
 use Rattle.meaning.specs.Blocks.{timesRight}
-use Rattle.meaning.specs.Sets.{Subtitle}
+use Rattle.meaning.specs.Walk.{Subtitle}
 use Rattle.meaning.specs.Document.{Span, Piece, Paragraph, Document, render}
 use Rattle.meaning.specs.Document.Piece.{span, br}
 

@@ -1,6 +1,6 @@
 -- A text's rows, and the rules 13 to 15: document 01, "Text to rows".
 -- Assumes nothing.
-use Prim.Native.Nat.{ℕ, zero, suc, _+_, _*_, _-_}
+use Prim.Native.Nat.{ℕ, _+_, _*_}
 use mathlib.Core.Bool.{Bool, true, false, cond, not, _&&_, _||_}
 use mathlib.Core.List.{List, [], _∷_}
 use lib.Dec.{leb, eqb}
@@ -8,7 +8,10 @@ use lib.ListN.{length, getD}
 use Rattle.meaning.specs.declared.Token.{Token}
 use Rattle.meaning.specs.declared.Rows.{Rows}
 use Rattle.meaning.specs.declared.Lines.{Lines}
-use Rattle.meaning.specs.Lists.{all, any, keep, ontoFirst, later, firstBroken}
+use Rattle.meaning.specs.declared.Refusal.{Refusal}
+use Rattle.meaning.specs.declared.Format.{Format}
+use Rattle.meaning.specs.Lists.{all, any, keep, ontoFirst, later}
+use Rattle.meaning.specs.Refusals.{firstBroken}
 use Rattle.meaning.specs.Codes.{isListed, isCharacter, isRowEnd, takesCell, isDoubleHeight}
 
 -- n row ends make n + 1 rows, empty ones counted
@@ -68,13 +71,13 @@ rowCount rs = record { 0 = length rs }
 unfoldable pub isShort : List Token → Bool
 isShort r = leb (length (keep takesCell r)) 64
 
--- rule 15: all rows are short, and the lines covered, from line VP on, end before line `end`
-unfoldable pub rowsFit : ℕ → ℕ → ℕ → List Token → Bool
-rowsFit mode end vp ts =
-    all isShort (rows mode ts)
-    && leb (vp + linesOf (isDouble ts) (rowCount (rows mode ts)) .0) end
+-- rule 15: all rows are short, and the lines covered, from line VP on, end before the screen does
+unfoldable pub rowsFit : Format → ℕ → List Token → Bool
+rowsFit f vp ts =
+    all isShort (rows (f .mode) ts)
+    && leb (vp + linesOf (isDouble ts) (rowCount (rows (f .mode) ts)) .0) (f .screen .end)
 
--- the number of the first of the rules 13 to 15 that a text breaks, or 0
-unfoldable pub textRule : ℕ → ℕ → ℕ → List Token → ℕ
-textRule mode end vp ts =
-    firstBroken ((13, all isListed ts) ∷ (14, heightsRight mode ts) ∷ (15, rowsFit mode end vp ts) ∷ [])
+-- the first of the rules 13 to 15 that a text breaks, whose set begins at a place
+unfoldable pub textRule : Format → ℕ → ℕ → List Token → Refusal
+textRule f place vp ts =
+    firstBroken place ((13, all isListed ts) ∷ (14, heightsRight (f .mode) ts) ∷ (15, rowsFit f vp ts) ∷ [])

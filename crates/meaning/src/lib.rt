@@ -1,9 +1,38 @@
 // The types that the definitions in specs/ speak of, with the few functions that belong to a type.
 
 ghost use mathlib.Core.Path.{_≡_};
-ghost use Rattle.meaning.specs.Looks.{whiteOnBlack, pack, unpack, shared, free, blend};
+ghost use Rattle.meaning.specs.Refusals.{inTurn};
+ghost use Rattle.meaning.specs.Blocks.{isComment};
+ghost use Rattle.meaning.specs.Sets.{isUser};
+ghost use Rattle.meaning.specs.Looks.{pack, unpack, shared, free, blend};
 ghost use Rattle.meaning.specs.Cells.{newPen};
 ghost use Rattle.meaning.specs.Rows.{linesOf};
+
+// The rule that a file breaks, and the block where. Number 0 at place 0: no rule is broken.
+pub struct Refusal {
+    pub number: u64,
+    pub place: u64,
+}
+
+impl Refusal {
+    pub const NONE: Refusal = Refusal {
+        number: 0,
+        place: 0,
+    };
+
+    // One rule more, at a place: of those that fail the first counts.
+    pub fn or(self, place: u64, number: u64, holds: bool) -> Refusal
+        ensures { λ r. ⌜ r ≡ inTurn self place number holds ⌝ }
+    {
+        if holds {
+            return self;
+        }
+        if self.number != 0 {
+            return self;
+        }
+        Refusal { number, place }
+    }
+}
 
 // What comes back from a conversion, in document 01's order.
 pub struct Answer {
@@ -46,6 +75,21 @@ pub struct Header {
     pub cf: u8,
 }
 
+impl Header {
+    pub fn is_comment(self) -> bool
+        ensures { λ r. ⌜ r ≡ isComment self ⌝ }
+    {
+        self.cf == 1
+    }
+
+    // User data is passed over.
+    pub fn is_user(self) -> bool
+        ensures { λ r. ⌜ r ≡ isUser self ⌝ }
+    {
+        self.ebn == 254
+    }
+}
+
 // The lines that a subtitle may stand on: from `first` up to, not with, `end`.
 pub struct Screen {
     pub first: u8,
@@ -55,7 +99,7 @@ pub struct Screen {
 // How a file is read: the break mode, the frames of a second, and the screen.
 pub struct Format {
     pub mode: u64,
-    pub rate: u64,
+    pub rate: u8,
     pub screen: Screen,
 }
 
@@ -82,15 +126,12 @@ impl Look {
     // A packed look is below it.
     pub const COUNT: usize = 128;
 
-    pub fn white_on_black(double: bool) -> Look
-        ensures { λ r. ⌜ r ≡ whiteOnBlack double ⌝ }
-    {
-        Look {
-            double,
-            background: Look::BLACK,
-            colour: Look::WHITE,
-        }
-    }
+    // In single height.
+    pub const WHITE_ON_BLACK: Look = Look {
+        double: false,
+        background: Look::BLACK,
+        colour: Look::WHITE,
+    };
 
     pub fn pack(self) -> u16
         ensures { λ r. ⌜ r ≡ pack self ⌝ }
@@ -151,7 +192,8 @@ impl Pen {
     pub fn new(double: bool) -> Pen
         ensures { λ r. ⌜ r ≡ newPen double ⌝ }
     {
-        let look = Look::white_on_black(double);
+        let mut look = Look::WHITE_ON_BLACK;
+        look.double = double;
         Pen { look }
     }
 }

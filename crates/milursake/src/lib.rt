@@ -1,11 +1,34 @@
 // The converter for callers in other languages.
 
 ghost use mathlib.Core.Path.{_≡_};
-ghost use lib.ListN.{length};
+ghost use lib.ListN.{length, set};
 ghost use Rattle.meaning.specs.Conversion.{answer, output};
 ghost use Rattle.meaning.specs.Demands.{FewestSpans};
 ghost use Rattle.output.specs.Output.{stored};
-ghost use Rattle.convert.specs.Telling.{numbersOf};
+ghost use Rattle.milursake.specs.Numbers.{numbersOf};
+use meaning::Answer;
+
+fn put_number(numbers: &mut [u64], i: usize, n: u64)
+    ensures { λ _. ⌜ now (numbers .exit) ≡ set (now (numbers .entry)) i n ⌝ }
+{
+    if i < numbers.len() {
+        numbers[i] = n;
+    }
+}
+
+// The answer's numbers in document 01's order, as many as there is room for.
+fn put_answer(numbers: &mut [u64], a: Answer)
+    ensures { λ _. ⌜ now (numbers .exit) ≡ stored (now (numbers .entry)) 0 (numbersOf a) ⌝ }
+{
+    put_number(numbers, 0, a.number);
+    put_number(numbers, 1, a.place);
+    put_number(numbers, 2, a.length);
+    put_number(numbers, 3, a.subtitles);
+    put_number(numbers, 4, a.comments);
+    put_number(numbers, 5, a.continuations);
+    put_number(numbers, 6, a.users);
+    put_number(numbers, 7, a.spans);
+}
 
 // For callers in C and Rust: the refusal's number, or 0; the whole answer is stored in `numbers`.
 #[no_mangle]
@@ -21,6 +44,6 @@ pub extern "C" fn milursake_convert(
     ensures fewest { λ r. ⌜ (r ≡ 0 → FewestSpans mode (now (file .entry)) (answer mode (now (file .entry)) (length (now (out .entry)))) (now (out .exit))) ⌝ }
 {
     let a = convert::convert(file, mode, out);
-    convert::put_answer(numbers, a);
+    put_answer(numbers, a);
     a.number
 }

@@ -1,19 +1,20 @@
 -- The laws of writing into a lent buffer: writes one after the other are one write, and what it leaves there.
 -- Assumes nothing.
 use mathlib.Core.Path.{_≡_, refl, sym, ap, _∙_}
-use mathlib.Core.List.{List, [], _∷_, _++_}
+use mathlib.Core.List.{List, [], _∷_, _++_, append-nil}
 use Prim.Native.Nat.{ℕ, suc, _+_, _-_, _<_, _≤_, _^_, min}
 use native.Mathlib.Nat.{add-zero, add-suc, suc-add}
 use native.Mathlib.Decide.{decLe}
 use native.Mathlib.Omega.{arith}
 use lib.ListN.{length, set, take, drop, getD, length-append, length-set, drop-of-length-le}
-use lib.Seq.{set-out, sets, sets-eq, drop-cons, take-append-seam}
+use lib.Seq.{set-out, length-sets, sets-eq, drop-cons}
+use Rattle.meaning.specs.Lists.{joinMap}
+use Rattle.meaning.proofs.ListLaws.{join-append}
 use Rattle.output.specs.Output.{stored, past, Wrote}
 
 pub length-stored : (buf : List ℕ) (at : ℕ) (xs : List ℕ) → length (stored buf at xs) ≡ length buf
 unfolding stored
-length-stored buf at [] = refl
-length-stored buf at (x ∷ xs) = length-stored (set buf at x) (suc at) xs ∙ length-set buf at x
+length-stored buf at xs = length-sets buf at xs
 
 -- past the end nothing is stored
 pub stored-out : (buf : List ℕ) (at : ℕ) (xs : List ℕ) → length buf ≤ at → stored buf at xs ≡ buf
@@ -46,22 +47,23 @@ stored-cut buf at xs n e = at-end (decLe (length xs) n)
     at-end (no p) = stored-out buf (at + n) (drop n xs) (omega arith)
 
 -- a position that saturates lies past the end of any buffer, as the sum does
-stored-past : (l : List ℕ) (k : ℕ) (ys : List ℕ) → length l < 2 ^ 64 → Dec (k ≤ 18446744073709551615) → stored l (min k 18446744073709551615) ys ≡ stored l k ys
-stored-past l k ys h (yes p) = ap (λ (n : ℕ). stored l n ys) (omega arith)
-stored-past l k ys h (no p) = stored-out l (min k 18446744073709551615) ys (omega arith) ∙ sym (stored-out l k ys (omega arith))
+stored-past : (l : List ℕ) (at n : ℕ) (ys : List ℕ) → length l < 2 ^ 64 → stored l (past at n) ys ≡ stored l (at + n) ys
+unfolding past
+stored-past l at n ys h = at-end (decLe (length l) (at + n))
+  where
+    at-end : Dec (length l ≤ at + n) → stored l (past at n) ys ≡ stored l (at + n) ys
+    at-end (yes p) = stored-out l (past at n) ys (omega arith) ∙ sym (stored-out l (at + n) ys p)
+    at-end (no p) = ap (λ (k : ℕ). stored l k ys) (omega arith)
 
 -- two writes are one. Nested to the right, as a document's parts are
 infixr 50 _⨟_
 pub _⨟_ : {buf b1 b2 xs ys : List ℕ} {at r1 r2 : ℕ} → Wrote buf at xs b1 r1 → Wrote b1 r1 ys b2 r2 → Wrote buf at (xs ++ ys) b2 r2
 unfolding past
-_⨟_ {buf} {b1} {b2} {xs} {ys} {at} {r1} {r2} w v =
+_⨟_ {buf} {xs = xs} {ys} {at} w v =
     record {
       held =
           v .held
-          ∙ ap (λ (n : ℕ). stored b1 n ys) (w .next)
-          ∙ ap (λ (l : List ℕ). stored l (min (at + length xs) 18446744073709551615) ys) (w .held)
-          ∙ stored-past (stored buf at xs) (at + length xs) ys (omega (arith, length-stored buf at xs, w .room)) (decLe (at + length xs) 18446744073709551615)
-          ∙ sym (stored-append buf at xs ys);
+          ∙ rw (w .next, w .held) (stored-past (stored buf at xs) at (length xs) ys (omega (arith, length-stored buf at xs, w .room)) ∙ sym (stored-append buf at xs ys));
       next = omega (arith, length-append xs ys, w .next, v .next);
       room = w .room;
     }
@@ -77,32 +79,25 @@ pub wrote-nothing : (buf : List ℕ) (at : ℕ) → length buf < 2 ^ 64 → at <
 unfolding stored past
 wrote-nothing buf at h k = record { held = refl; next = omega arith; room = h }
 
--- the position after a write from 0 is the length, if that or the position is known not to have saturated
-pub from-zero : {buf b1 xs : List ℕ} {r : ℕ} → Wrote buf 0 xs b1 r → length xs < 2 ^ 64 → r ≡ length xs
+-- .. and so it is where something was written
+pub wrote-here : {buf b1 xs : List ℕ} {at r : ℕ} → Wrote buf at xs b1 r → Wrote b1 r [] b1 r
 unfolding past
-from-zero w h = omega (arith, w .next)
+wrote-here {b1 = b1} {r = r} w = wrote-nothing b1 r (omega (arith, wrote-length w, w .room)) (omega (arith, w .next))
 
-pub wrote-count : {buf b1 xs : List ℕ} {r : ℕ} → Wrote buf 0 xs b1 r → r < 18446744073709551615 → r ≡ length xs
-unfolding past
-wrote-count w h = omega (arith, w .next)
-
-stored-is-sets : (xs buf : List ℕ) (at : ℕ) → stored buf at xs ≡ sets buf at xs
-unfolding stored
-stored-is-sets [] buf at = refl
-stored-is-sets (x ∷ xs) buf at = stored-is-sets xs (set buf at x) (suc at)
+-- one item more: the step of every loop that writes item after item
+pub wrote-more :
+    {A : Type 0} (f : A → List ℕ) (xs : List A) (x : A) {buf b1 b2 : List ℕ} {at r1 r2 : ℕ} → Wrote buf at (joinMap f xs) b1 r1
+    → Wrote b1 r1 (f x) b2 r2 → Wrote buf at (joinMap f (xs ++ x ∷ [])) b2 r2
+unfolding joinMap
+wrote-more f xs x w v = rw (join-append f xs (x ∷ []), append-nil (f x)) (w ⨟ v)
 
 -- where there is room, the bytes stand between what was before and what was after
 pub stored-fits : (buf : List ℕ) (at : ℕ) (xs : List ℕ) → at + length xs ≤ length buf → stored buf at xs ≡ take at buf ++ xs ++ drop (at + length xs) buf
-stored-fits buf at xs h = stored-is-sets xs buf at ∙ sets-eq xs buf at h
+unfolding stored
+stored-fits buf at xs h = sets-eq xs buf at h
 
 -- a write from 0 that fits leaves its bytes, and then what stood behind them
 pub wrote-placed : {buf b1 xs : List ℕ} {r : ℕ} → Wrote buf 0 xs b1 r → length xs ≤ length buf → b1 ≡ xs ++ drop (length xs) buf
 wrote-placed {buf} {b1} {xs} w h =
     let z : 0 + length xs ≡ length xs = omega arith in
     w .held ∙ stored-fits buf 0 xs (omega arith) ∙ rw z
-
--- .. and so they are its first bytes
-pub wrote-front : {buf b1 xs : List ℕ} {r : ℕ} → Wrote buf 0 xs b1 r → r < 18446744073709551615 → r ≤ length buf → take r b1 ≡ xs
-wrote-front {buf} {b1} {xs} {r} w h k =
-    let e : r ≡ length xs = wrote-count w h in
-    rw (e, wrote-placed w (omega arith)) (take-append-seam xs (drop (length xs) buf))

@@ -3,26 +3,24 @@
 use Prim.Native.Nat.{ℕ, _*_, _≤_}
 use native.Mathlib.Omega.{arith}
 use mathlib.Core.Path.{_≡_, refl, sym, ap, _∙_}
-use mathlib.Core.Bool.{Bool, true, false, cond, not, _&&_}
+use mathlib.Core.Bool.{Bool, true, false, _&&_}
 use mathlib.Core.List.{List, [], _∷_, map, _++_}
-use lib.Dec.{eqb}
-use lib.ListN.{getD}
 use Rattle.meaning.specs.declared.Rows.{Rows}
-use Rattle.meaning.specs.declared.Lines.{Lines}
 use Rattle.meaning.specs.declared.Token.{Token}
-use Rattle.meaning.specs.declared.Token.the-variants.{Character, Control, RowEnd, Unlisted}
-use Rattle.meaning.specs.Lists.{all, any, ontoFirst}
-use Rattle.meaning.specs.Codes.{isListed, isRowEnd, isDoubleHeight}
+use Rattle.meaning.specs.declared.Token.the-variants.{Character}
+use Rattle.meaning.specs.Lists.{any, takeWhile, ontoFirst}
+use Rattle.meaning.specs.Codes.{isRowEnd, isDoubleHeight}
 use Rattle.meaning.specs.Rows.{splitRows, isDouble, breaksPaired, pairedFrom, rows, evenFrom, linesOf}
 use Rattle.meaning.proofs.Logic.{by-test, false-not-true}
-use Rattle.rows.specs.FirstRow.{firstRow, afterRow, isEnded, endFirst, withoutEnd, nextRows, rowsOf, rowsAfter}
+use Rattle.meaning.proofs.ListLaws.{while-on, while-off}
+use Rattle.rows.specs.FirstRow.{inRow, firstRow, afterRow, isEnded, endFirst, withoutEnd, nextRows, rowsOf, rowsAfter}
 
 -- the clauses, by the test
 module _ (t : Token) (ts : List Token) where
   module _ (e : isRowEnd t ≡ true) where
     pub first-end : firstRow (t ∷ ts) ≡ []
-    unfolding firstRow
-    first-end = rw (e, firstRow)
+    unfolding firstRow inRow
+    first-end = while-off inRow t ts (rw e)
 
     pub after-end : afterRow (t ∷ ts) ≡ ts
     unfolding afterRow
@@ -38,8 +36,8 @@ module _ (t : Token) (ts : List Token) where
 
   module _ (e : isRowEnd t ≡ false) where
     pub first-more : firstRow (t ∷ ts) ≡ t ∷ firstRow ts
-    unfolding firstRow
-    first-more = rw (e, firstRow)
+    unfolding firstRow inRow
+    first-more = while-on inRow t ts (rw e)
 
     pub after-more : afterRow (t ∷ ts) ≡ afterRow ts
     unfolding afterRow
@@ -54,7 +52,7 @@ module _ (t : Token) (ts : List Token) where
     split-more = rw (e, splitRows)
 
 pub first-none : firstRow [] ≡ []
-unfolding firstRow
+unfolding firstRow takeWhile
 first-none = refl
 
 pub after-none : afterRow [] ≡ []

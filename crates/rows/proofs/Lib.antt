@@ -1,6 +1,6 @@
 pub mod Laws
 pub mod RowEnds
-pub mod Counted
 pub mod RowLoop
 pub mod TextLoop
+pub mod Gathered
 pub mod Facts

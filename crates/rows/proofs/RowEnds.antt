@@ -15,9 +15,9 @@ use Rattle.charset.specs.declared.Reading.{Reading}
 use Rattle.charset.specs.Reading.{readingAt, tokenAt, nextAt, afterEndAt, afterRowAt}
 use Rattle.charset.proofs.Positions.{read-over, row-over}
 use Rattle.charset.proofs.Laws.{ReadOn, read-at, tokens-end}
-use Rattle.rows.specs.declared.EndRead.{EndRead}
+use Rattle.rows.specs.declared.NextRow.{NextRow}
 use Rattle.rows.specs.FirstRow.{afterRow, isEnded, endFirst, withoutEnd, nextRows}
-use Rattle.rows.specs.Scanned.{endAt, nextRowAt}
+use Rattle.rows.specs.Scanned.{nextRowAt, nextRow}
 use Rattle.rows.proofs.Laws.{after-none, after-end, after-more, ended-none, ended-more}
 
 -- a row by its first token
@@ -28,47 +28,41 @@ module _ {s : List ℕ} {i : ℕ} {r : Reading} (o : ReadOn s i r) where
   pub row-more : isRowEnd (r .token) ≡ false → afterRowAt s i ≡ afterRowAt s (r .next)
   row-more e = rw e at (o .row)
 
--- after a row stand the tokens after its row end
-row-rest-over : (s : List ℕ) (i : ℕ) → length s ≤ i → tokens (drop (afterRowAt s i) s) ≡ afterRow (tokens (drop i s))
-row-rest-over s i h =
-    ap (λ (k : ℕ). tokens (drop k s)) (row-over s i h) ∙ tokens-end s i h ∙ sym (ap afterRow (tokens-end s i h) ∙ after-none)
+-- after the row from i, at n, stand the tokens after its row end; where there is one, n lies further on within the text
+record Passed (s : List ℕ) (i n : ℕ) : Type 0 where
+  rest : tokens (drop n s) ≡ afterRow (tokens (drop i s))
+  on : isEnded (tokens (drop i s)) ≡ true → (i < n) × (n ≤ length s)
 
-row-rest : (n : ℕ) (s : List ℕ) (i : ℕ) → length s ≤ i + n → tokens (drop (afterRowAt s i) s) ≡ afterRow (tokens (drop i s))
-row-rest zero s i h = row-rest-over s i (omega arith)
-row-rest (suc n) s i h =
+passed-over : (s : List ℕ) (i : ℕ) → length s ≤ i → Passed s i (afterRowAt s i)
+passed-over s i h =
+    let t = tokens-end s i h in
+    rw (row-over s i h)
+    (record { rest = t ∙ sym (ap afterRow t ∙ after-none); on = λ e. absurd (false-not-true (sym (ap isEnded t ∙ ended-none) ∙ e)) })
+
+passed : (k : ℕ) (s : List ℕ) (i : ℕ) → length s ≤ i + k → Passed s i (afterRowAt s i)
+passed zero s i h = passed-over s i (omega arith)
+passed (suc k) s i h =
     by-test (ltb i (length s))
     (λ l.
     let o = read-at s i (ltb-true i (length s) l) in
     let ts = tokens (drop (nextAt s i) s) in
     by-test (isRowEnd (tokenAt s i))
-    (λ e. ap (λ (k : ℕ). tokens (drop k s)) (row-end o e) ∙ sym (ap afterRow (o .first) ∙ after-end (tokenAt s i) ts e))
+    (λ e. rw (row-end o e) (record { rest = sym (ap afterRow (o .first) ∙ after-end (tokenAt s i) ts e); on = λ z. (o .on, o .within) }))
     (λ e.
-    ap (λ (k : ℕ). tokens (drop k s)) (row-more o e) ∙ row-rest n s (nextAt s i) (omega (arith, o .on))
-    ∙ sym (ap afterRow (o .first) ∙ after-more (tokenAt s i) ts e)))
-    (λ l. row-rest-over s i (ltb-false i (length s) l))
+    let p = passed k s (nextAt s i) (omega (arith, o .on)) in
+    rw (row-more o e)
+    (record {
+      rest = p .rest ∙ sym (ap afterRow (o .first) ∙ after-more (tokenAt s i) ts e);
+      on = λ z. let w = p .on (sym (ap isEnded (o .first) ∙ ended-more (tokenAt s i) ts e) ∙ z) in (omega (arith, o .on), w .1);
+    })))
+    (λ l. passed-over s i (ltb-false i (length s) l))
 
-pub rest-after : (s : List ℕ) (i : ℕ) {n : ℕ} → n ≡ afterRowAt s i → tokens (drop n s) ≡ afterRow (tokens (drop i s))
-rest-after s i e = ap (λ (k : ℕ). tokens (drop k s)) e ∙ row-rest (length s) s i (omega arith)
+module _ (s : List ℕ) (i : ℕ) {n : ℕ} (e : n ≡ afterRowAt s i) where
+  pub rest-after : tokens (drop n s) ≡ afterRow (tokens (drop i s))
+  rest-after = rw e (passed (length s) s i (omega arith) .rest)
 
--- a row that has a row end is passed, within the text
-no-row-end : {G : Type 0} (s : List ℕ) (i : ℕ) → length s ≤ i → isEnded (tokens (drop i s)) ≡ true → G
-no-row-end s i h e = absurd (false-not-true (sym ended-none ∙ sym (ap isEnded (tokens-end s i h)) ∙ e))
-
-row-on : (n : ℕ) (s : List ℕ) (i : ℕ) → length s ≤ i + n → isEnded (tokens (drop i s)) ≡ true → (i < afterRowAt s i) × (afterRowAt s i ≤ length s)
-row-on zero s i h e = no-row-end s i (omega arith) e
-row-on (suc n) s i h e =
-    by-test (ltb i (length s))
-    (λ l.
-    let o = read-at s i (ltb-true i (length s) l) in
-    by-test (isRowEnd (tokenAt s i))
-    (λ f. (omega (arith, row-end o f, o .on), omega (arith, row-end o f, o .within)))
-    (λ f.
-    let k = row-on n s (nextAt s i) (omega (arith, o .on)) (sym (ap isEnded (o .first) ∙ ended-more (tokenAt s i) (tokens (drop (nextAt s i) s)) f) ∙ e) in
-    (omega (arith, row-more o f, o .on, k .0), omega (arith, row-more o f, k .1))))
-    (λ l. no-row-end s i (ltb-false i (length s) l) e)
-
-pub on-after : (s : List ℕ) (i : ℕ) {n : ℕ} {b : Bool} → n ≡ afterRowAt s i → b ≡ isEnded (tokens (drop i s)) → b ≡ true → (i < n) × (n ≤ length s)
-on-after s i e f z = let k = row-on (length s) s i (omega arith) (sym f ∙ z) in (omega (arith, e, k .0), omega (arith, e, k .1))
+  pub on-after : {b : Bool} → b ≡ isEnded (tokens (drop i s)) → b ≡ true → (i < n) × (n ≤ length s)
+  on-after f z = rw e (passed (length s) s i (omega arith) .on (sym f ∙ z))
 
 -- a row end at a position
 module _ (s : List ℕ) (i : ℕ) where
@@ -105,21 +99,9 @@ module _ (s : List ℕ) (i : ℕ) where
       (λ h. rw (after-not (no-token h)) (tokens-end s i h ∙ sym (ap withoutEnd (tokens-end s i h))))
 
   -- what a look at the position tells
-  pub end-found : {r : Reading} → r ≡ readingAt s i → isRowEnd (r .token) ≡ true → record { found = true; after = r .next } ≡ endAt s i
-  unfolding endAt
-  end-found e t =
-      let f : isRowEnd (tokenAt s i) ≡ true = ap (λ (x : Reading). isRowEnd (x .token)) (sym e) ∙ t in
-      rw (f, after-here f) (ap (λ (x : Reading). record { found = true; after = x .next }) e)
-
-  pub end-other : {r : Reading} → r ≡ readingAt s i → isRowEnd (r .token) ≡ false → record { found = false; after = i } ≡ endAt s i
-  unfolding endAt
-  end-other e t =
-      let f : isRowEnd (tokenAt s i) ≡ false = ap (λ (x : Reading). isRowEnd (x .token)) (sym e) ∙ t in
-      rw (f, after-not f)
-
-  pub end-over : length s ≤ i → record { found = false; after = i } ≡ endAt s i
-  unfolding endAt
-  end-over h = rw (no-token h, after-not (no-token h))
+  pub end-read : {r : Reading} (b : Bool) → r ≡ readingAt s i → b ≡ isRowEnd (r .token) → record { even = b; start = cond b (r .next) i } ≡ nextRow s true i
+  unfolding nextRow nextRowAt afterEndAt
+  end-read b e f = rw (f, e)
 
   end-on : i ≤ afterEndAt s i
   end-on =
@@ -133,10 +115,9 @@ unfolding nextRowAt
 start-on s true next = end-on s next
 start-on s false next = omega arith
 
--- told by a row end that was looked for
-pub started : (s : List ℕ) (paired : Bool) (next : ℕ) {start : ℕ} {e : EndRead} → e ≡ endAt s next → start ≡ cond paired (e .after) next → start ≡ nextRowAt s paired next
-unfolding endAt nextRowAt
-started s paired next f q = q ∙ rw f
+pub started : (s : List ℕ) (paired : Bool) (next : ℕ) {n : NextRow} → n ≡ nextRow s paired next → n .start ≡ nextRowAt s paired next
+unfolding nextRow
+started s paired next f = ap (λ (n : NextRow). n .start) f
 
 -- what stands from the next row on
 pub next-rows :

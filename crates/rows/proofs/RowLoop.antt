@@ -4,86 +4,85 @@ use Prim.Native.Nat.{ℕ, _-_, _≤_}
 use native.Mathlib.Omega.{arith}
 use mathlib.Core.Path.{_≡_, refl, sym, ap, _∙_}
 use mathlib.Core.Bool.{true, false, _||_}
-use mathlib.Core.List.{List, [], _∷_, map, _++_}
-use lib.ListN.{length, drop}
+use mathlib.Core.List.{List, [], _∷_, map, _++_, append-nil, append-assoc}
+use lib.ListN.{length, take, drop, length-take, length-drop}
+use lib.Seq.{append-snoc}
 use Rattle.meaning.specs.declared.Token.{Token}
 use Rattle.meaning.specs.declared.Token.the-variants.{Character}
-use Rattle.meaning.specs.Codes.{isRowEnd, isListed, isCharacter, takesCell, isDoubleHeight, tokens}
+use Rattle.meaning.specs.Codes.{isRowEnd, isDoubleHeight, tokens}
 use Rattle.meaning.specs.Lists.{any}
 use Rattle.meaning.specs.Rows.{isDouble}
 use Rattle.meaning.proofs.ListLaws.{any-cons}
 use Rattle.charset.specs.declared.Reading.{Reading}
-use Rattle.charset.specs.Plain.{plainRun, plainEnd}
 use Rattle.charset.specs.Reading.{afterRowAt}
 use Rattle.charset.proofs.Positions.{row-over}
-use Rattle.charset.proofs.Laws.{ReadOn, tokens-end, run-at, run-row}
+use Rattle.charset.proofs.Laws.{ReadOn, RunOn, tokens-end}
 use Rattle.rows.specs.declared.RowFacts.{RowFacts}
-use Rattle.rows.specs.declared.RowScan.{RowScan}
 use Rattle.rows.specs.FirstRow.{firstRow, isEnded}
-use Rattle.rows.specs.Scanning.{noRowFacts, withToken, withCharacters, rowFactsFrom}
+use Rattle.rows.specs.Scanning.{factsOfRow, withToken, withCharacters}
 use Rattle.rows.specs.Scanned.{Scanned}
 use Rattle.rows.proofs.Laws.{double-first, first-none, ended-none, first-end, ended-end, first-more, ended-more, first-run, ended-run}
+use Rattle.rows.proofs.Gathered.{with-token, with-characters}
 use Rattle.rows.proofs.RowEnds.{row-end, row-more}
 
--- the rest of the row from position i makes of the facts so far those of the row from `start`
+-- the row from `start` is what was read of it, and its rest from position i on; f has the facts of what was read
 pub record RowLeft (s : List ℕ) (start : ℕ) (f : RowFacts) (i : ℕ) : Type 0 where
-  pub facts : rowFactsFrom f (firstRow (tokens (drop i s))) ≡ rowFactsFrom noRowFacts (firstRow (tokens (drop start s)))
+  pub past : List Token
+  pub facts : f ≡ factsOfRow past
+  pub row : past ++ firstRow (tokens (drop i s)) ≡ firstRow (tokens (drop start s))
   pub ended : isEnded (tokens (drop i s)) ≡ isEnded (tokens (drop start s))
   pub next : afterRowAt s i ≡ afterRowAt s start
 
--- the facts of a run of characters and what follows it
-run-facts : (cs : List ℕ) (f : RowFacts) (ts : List Token) → rowFactsFrom f (map Character cs ++ ts) ≡ rowFactsFrom (withCharacters f (length cs)) ts
-unfolding rowFactsFrom withCharacters withToken isListed isCharacter takesCell isDoubleHeight
-run-facts [] f ts = refl
-run-facts (c ∷ cs) f ts = run-facts cs (withToken f (Character 0)) ts
-
-pub left-start : (s : List ℕ) (start : ℕ) {f : RowFacts} → f ≡ noRowFacts → RowLeft s start f start
-left-start s start e = record { facts = rw e; ended = refl; next = refl }
+pub left-start : (s : List ℕ) (start : ℕ) {f : RowFacts} → f ≡ factsOfRow [] → RowLeft s start f start
+left-start s start e = record { past = []; facts = e; row = refl; ended = refl; next = refl }
 
 module _ {s : List ℕ} {start i : ℕ} {f : RowFacts} (l : RowLeft s start f i) where
   -- a token of the row
   pub left-more : {r : Reading} {g : RowFacts} → ReadOn s i r → isRowEnd (r .token) ≡ false → g ≡ withToken f (r .token) → RowLeft s start g (r .next)
-  unfolding rowFactsFrom
   left-more {r} o e g =
       let ts = tokens (drop (r .next) s) in
       record {
-        facts = rw g (sym (ap (rowFactsFrom f) (ap firstRow (o .first) ∙ first-more (r .token) ts e)) ∙ l .facts);
+        past = l .past ++ (r .token ∷ []);
+        facts = rw (g, l .facts) (sym (with-token (l .past) (r .token)));
+        row = append-snoc (l .past) (r .token) (firstRow ts) ∙ ap (λ (us : List Token). l .past ++ us) (sym (ap firstRow (o .first) ∙ first-more (r .token) ts e)) ∙ l .row;
         ended = sym (ap isEnded (o .first) ∙ ended-more (r .token) ts e) ∙ l .ended;
         next = sym (row-more o e) ∙ l .next;
       }
 
   -- a run of plain codes, up to e
-  pub left-run : {e : ℕ} {g : RowFacts} → e ≡ plainEnd s i → g ≡ withCharacters f (e - i) → RowLeft s start g e
-  unfolding plainEnd
-  left-run {e} h g =
-      let cs = plainRun (drop i s) in
-      let ts = tokens (drop (plainEnd s i) s) in
-      let n : e - i ≡ length cs = omega (arith, h) in
-      rw h
-      (record {
-        facts = rw (g, n) (sym (ap (rowFactsFrom f) (ap firstRow (run-at s i) ∙ first-run ts cs) ∙ run-facts cs f (firstRow ts)) ∙ l .facts);
-        ended = sym (ap isEnded (run-at s i) ∙ ended-run ts cs) ∙ l .ended;
-        next = sym (run-row s i) ∙ l .next;
-      })
+  pub left-run : {e : ℕ} {g : RowFacts} → RunOn s i e → g ≡ withCharacters f (e - i) → RowLeft s start g e
+  left-run {e} o g =
+      let cs = take (e - i) (drop i s) in
+      let ts = tokens (drop e s) in
+      let n : e - i ≡ length cs = omega (arith, length-take (e - i) (drop i s), length-drop i s, o .within) in
+      record {
+        past = l .past ++ map Character cs;
+        facts = g ∙ ap (withCharacters f) n ∙ rw (l .facts) (sym (with-characters (l .past) cs));
+        row = append-assoc (l .past) (map Character cs) (firstRow ts) ∙ ap (λ (us : List Token). l .past ++ us) (sym (ap firstRow (o .first) ∙ first-run ts cs)) ∙ l .row;
+        ended = sym (ap isEnded (o .first) ∙ ended-run ts cs) ∙ l .ended;
+        next = sym (o .row) ∙ l .next;
+      }
+
+  -- nothing is left
+  all-read : firstRow (tokens (drop i s)) ≡ [] → f ≡ factsOfRow (firstRow (tokens (drop start s)))
+  all-read e = l .facts ∙ ap factsOfRow (sym (append-nil (l .past)) ∙ rw e at (l .row))
 
   -- the row end
   pub left-end : {r : Reading} → ReadOn s i r → isRowEnd (r .token) ≡ true → Scanned s start (record { facts = f; ended = true; next = r .next })
-  unfolding rowFactsFrom
   left-end {r} o e =
       let ts = tokens (drop (r .next) s) in
       record {
-        facts = sym (ap (rowFactsFrom f) (ap firstRow (o .first) ∙ first-end (r .token) ts e)) ∙ l .facts;
+        facts = all-read (ap firstRow (o .first) ∙ first-end (r .token) ts e);
         ended = sym (ap isEnded (o .first) ∙ ended-end (r .token) ts e) ∙ l .ended;
         next = sym (row-end o e) ∙ l .next;
       }
 
   -- the end of the text
   pub left-over : length s ≤ i → Scanned s start (record { facts = f; ended = false; next = i })
-  unfolding rowFactsFrom
   left-over h =
       let t = tokens-end s i h in
       record {
-        facts = sym (ap (rowFactsFrom f) (ap firstRow t ∙ first-none)) ∙ l .facts;
+        facts = all-read (ap firstRow t ∙ first-none);
         ended = sym (ap isEnded t ∙ ended-none) ∙ l .ended;
         next = sym (row-over s i h) ∙ l .next;
       }
@@ -117,11 +116,11 @@ module _ {s : List ℕ} {i : ℕ} (l : HeightLeft s i) where
       height-here d = rw d at here
 
       -- another token, and the run after it
-      pub height-more : isDoubleHeight (r .token) ≡ false → HeightLeft s (plainEnd s (r .next))
-      height-more d =
-          let cs = plainRun (drop (r .next) s) in
-          let ts = tokens (drop (plainEnd s (r .next)) s) in
-          let run = ap (any isDoubleHeight) (ap firstRow (run-at s (r .next)) ∙ first-run ts cs) ∙ run-height cs (firstRow ts) in
+      pub height-more : {k : ℕ} → isDoubleHeight (r .token) ≡ false → RunOn s (r .next) k → HeightLeft s k
+      height-more {k} d w =
+          let cs = take (k - r .next) (drop (r .next) s) in
+          let ts = tokens (drop k s) in
+          let run = ap (any isDoubleHeight) (ap firstRow (w .first) ∙ first-run ts cs) ∙ run-height cs (firstRow ts) in
           record { height = sym run ∙ rw d at here }
 
   pub height-over : length s ≤ i → false ≡ isDouble (tokens s)

@@ -3,96 +3,90 @@
 use Prim.Native.Nat.{ℕ, suc, _-_, _≤_, _<_}
 use native.Mathlib.Omega.{arith}
 use mathlib.Core.Path.{_≡_, refl, sym, ap, _∙_}
-use mathlib.Core.Bool.{Bool, true, false, cond, _&&_}
-use mathlib.Core.List.{List, [], _∷_}
+use mathlib.Core.Bool.{Bool, true, false, cond, not, _&&_, _||_, and-true, and-assoc, or-true}
+use mathlib.Core.List.{List, [], _∷_, _++_, append-nil}
 use lib.ListN.{length, drop}
+use lib.Seq.{append-snoc}
 use Rattle.meaning.specs.declared.Token.{Token}
 use Rattle.meaning.specs.Codes.{tokens}
 use Rattle.meaning.specs.Rows.{evenFrom}
-use Rattle.rows.specs.declared.RowFacts.{RowFacts}
 use Rattle.rows.specs.declared.RowScan.{RowScan}
-use Rattle.rows.specs.declared.EndRead.{EndRead}
+use Rattle.rows.specs.declared.NextRow.{NextRow}
 use Rattle.rows.specs.declared.TextFacts.{TextFacts}
-use Rattle.rows.specs.declared.TextScan.{TextScan}
-use Rattle.rows.specs.FirstRow.{firstRow, afterRow, isEnded, endFirst, nextRows, rowsOf, rowsAfter}
-use Rattle.rows.specs.Scanning.{noRowFacts, rowFactsFrom, noTextFacts, withRow, textFactsFrom}
-use Rattle.rows.specs.Scanned.{Scanned, endAt, nextRowAt, TextScanned}
+use Rattle.rows.specs.FirstRow.{firstRow, afterRow, isEnded, nextRows, rowsOf, rowsAfter}
+use Rattle.rows.specs.Scanning.{factsOfRows, withRow}
+use Rattle.rows.specs.Scanned.{Scanned, nextRow, TextScanned}
 use Rattle.rows.proofs.Laws.{rows-first, rows-after, no-rows-after, even-ended, even-open}
-use Rattle.rows.proofs.RowEnds.{rest-after, on-after, end-first, next-rows}
+use Rattle.rows.proofs.Gathered.{with-row}
+use Rattle.rows.proofs.RowEnds.{rest-after, on-after, end-first, started, next-rows}
 
--- `row` is what stands from the row read last on; the rows after it are still to come
+-- `row` is what stands from the row read last on; `past` are the rows up to that one, the rows after it are still to come
 pub record TextLeft (s : List ℕ) (paired : Bool) (a : TextFacts) (even more : Bool) (next : ℕ) : Type 0 where
   pub row : List Token
   pub ended : more ≡ isEnded row
   pub rest : tokens (drop next s) ≡ afterRow row
-  pub facts : textFactsFrom a (rowsAfter paired row) ≡ textFactsFrom noTextFacts (rowsOf paired (tokens s))
-  pub evens : paired ≡ true → (even && evenFrom false row) ≡ evenFrom false (tokens s)
+  pub past : List (List Token)
+  pub facts : a ≡ factsOfRows past
+  pub rows : past ++ rowsAfter paired row ≡ rowsOf paired (tokens s)
+  pub evens : (even && (not paired || evenFrom false row)) ≡ (not paired || evenFrom false (tokens s))
   pub within : more ≡ true → next ≤ length s
 
-and-assoc : (a b c : Bool) → ((a && b) && c) ≡ (a && (b && c))
-and-assoc true b c = refl
-and-assoc false b c = refl
-
-and-none : (a : Bool) → (a && true) ≡ a
-and-none true = refl
-and-none false = refl
-
--- one row more
-row-on :
-    (paired : Bool) (a : TextFacts) (ts : List Token) {f : RowFacts} → f ≡ rowFactsFrom noRowFacts (firstRow ts)
-    → textFactsFrom (withRow a f) (rowsAfter paired ts) ≡ textFactsFrom a (rowsOf paired ts)
-unfolding textFactsFrom
-row-on paired a ts e = rw (e, rows-first paired ts)
-
 pub left-first :
-    {s : List ℕ} (paired : Bool) {r : RowScan} {z a : TextFacts} → Scanned s 0 r → z ≡ noTextFacts → a ≡ withRow z (r .facts)
+    {s : List ℕ} (paired : Bool) {r : RowScan} {z a : TextFacts} → Scanned s 0 r → z ≡ factsOfRows [] → a ≡ withRow z (r .facts)
     → TextLeft s paired a true (r .ended) (r .next)
 left-first {s} paired {r} k n e =
     record {
       row = tokens s;
       ended = k .ended;
       rest = rest-after s 0 (k .next);
-      facts = rw (e, n) (row-on paired noTextFacts (tokens s) (k .facts));
-      evens = λ p. refl;
+      past = firstRow (tokens s) ∷ [];
+      facts = rw (e, n, k .facts) (sym (with-row [] (firstRow (tokens s))));
+      rows = sym (rows-first paired (tokens s));
+      evens = refl;
       within = λ z. on-after s 0 (k .next) (k .ended) z .1;
     }
 
+-- where row ends are not paired, it does not count whether their runs are even
+both-even : (paired a b d : Bool) → (paired ≡ true → d ≡ (a && b)) → (not paired || d) ≡ ((not paired || a) && (not paired || b))
+both-even true a b d h = h refl
+both-even false a b d h = refl
+
 module _ {s : List ℕ} {paired : Bool} {a : TextFacts} {even more : Bool} {next : ℕ} (l : TextLeft s paired a even more next) where
-  module _ (m : more ≡ true) {e : EndRead} (f : e ≡ endAt s next) where
-    even-next : (ts : List Token) → paired ≡ true → ts ≡ nextRows paired (l .row) → ((even && e .found) && evenFrom false ts) ≡ evenFrom false (tokens s)
-    unfolding nextRows
-    even-next ts p q =
-        let found : e .found ≡ endFirst (tokens (drop next s)) = ap (λ (x : EndRead). x .found) f ∙ unfold endAt in end-first s next in
-        and-assoc even (e .found) (evenFrom false ts)
+  module _ (m : more ≡ true) {n : NextRow} (f : n ≡ nextRow s paired next) where
+    even-next : (ts : List Token) → ts ≡ nextRows paired (l .row) → ((even && n .even) && (not paired || evenFrom false ts)) ≡ (not paired || evenFrom false (tokens s))
+    unfolding nextRow nextRows
+    even-next ts q =
+        and-assoc even (n .even) (not paired || evenFrom false ts)
         ∙ ap (λ (b : Bool). even && b)
-        (rw (found, l .rest, q, p) (sym (even-ended (l .row) (sym (l .ended) ∙ m))))
-        ∙ l .evens p
+        (rw (f, end-first s next)
+        (sym (both-even paired _ _ _ (λ p. rw (l .rest, q, p) (even-ended (l .row) (sym (l .ended) ∙ m))))))
+        ∙ l .evens
 
     pub left-next :
-        {start : ℕ} {r : RowScan} {b : TextFacts} → start ≡ nextRowAt s paired next → Scanned s start r → b ≡ withRow a (r .facts)
-        → TextLeft s paired b (even && e .found) (r .ended) (r .next)
-    left-next {start} {r} q k g =
+        {r : RowScan} {b : TextFacts} → Scanned s (n .start) r → b ≡ withRow a (r .facts) → TextLeft s paired b (even && n .even) (r .ended) (r .next)
+    left-next k g =
+        let ts = tokens (drop (n .start) s) in
+        let q = next-rows s paired next (l .row) (started s paired next f) (l .rest) in
         record {
-          row = tokens (drop start s);
+          row = ts;
           ended = k .ended;
-          rest = rest-after s start (k .next);
-          facts =
-              rw g
-              (row-on paired a (tokens (drop start s)) (k .facts)
-              ∙ ap (λ (ts : List Token). textFactsFrom a (rowsOf paired ts)) (next-rows s paired next (l .row) q (l .rest))
-              ∙ ap (textFactsFrom a) (sym (rows-after paired (l .row) (sym (l .ended) ∙ m)))
-              ∙ l .facts);
-          evens = λ p. even-next (tokens (drop start s)) p (next-rows s paired next (l .row) q (l .rest));
-          within = λ z. on-after s start (k .next) (k .ended) z .1;
+          rest = rest-after s (n .start) (k .next);
+          past = l .past ++ (firstRow ts ∷ []);
+          facts = rw (g, l .facts, k .facts) (sym (with-row (l .past) (firstRow ts)));
+          rows =
+              append-snoc (l .past) (firstRow ts) (rowsAfter paired ts)
+              ∙ ap (λ (rs : List (List Token)). l .past ++ rs) (sym (rows-first paired ts) ∙ ap (rowsOf paired) q ∙ sym (rows-after paired (l .row) (sym (l .ended) ∙ m)))
+              ∙ l .rows;
+          evens = even-next ts q;
+          within = λ z. on-after s (n .start) (k .next) (k .ended) z .1;
         }
 
   pub left-last : more ≡ false → TextScanned s paired (record { facts = a; even = even })
-  unfolding textFactsFrom
   left-last m =
       let o = sym (l .ended) ∙ m in
       record {
-        facts = sym (ap (textFactsFrom a) (no-rows-after paired (l .row) o)) ∙ l .facts;
-        even = λ p. sym (and-none even) ∙ ap (λ (b : Bool). even && b) (sym (even-open (l .row) o)) ∙ l .evens p;
+        facts = l .facts ∙ ap factsOfRows (sym (append-nil (l .past)) ∙ rw (no-rows-after paired (l .row) o) at (l .rows));
+        even = sym (and-true even) ∙ rw (even-open (l .row) o, or-true (not paired)) at (l .evens);
       }
 
 -- what is left of the text falls: another row was read, or there is none

@@ -1,16 +1,18 @@
 -- A text's first row, and what follows it: how the rows are met when a text is read from the left.
 -- Assumes nothing.
-use mathlib.Core.Bool.{Bool, true, false, cond}
+use mathlib.Core.Bool.{Bool, true, false, cond, not}
 use mathlib.Core.List.{List, [], _∷_}
 use Rattle.meaning.specs.declared.Token.{Token}
-use Rattle.meaning.specs.Lists.{any}
+use Rattle.meaning.specs.Lists.{any, takeWhile}
 use Rattle.meaning.specs.Codes.{isRowEnd}
 use Rattle.meaning.specs.Rows.{splitRows, pairedFrom}
 
 -- the tokens before the first row end
+unfoldable pub inRow : Token → Bool
+inRow t = not (isRowEnd t)
+
 unfoldable pub firstRow : List Token → List Token
-firstRow [] = []
-firstRow (t ∷ ts) = elim (isRowEnd t) [ true ↦ [] | false ↦ t ∷ firstRow ts ]
+firstRow ts = takeWhile inRow ts
 
 -- the tokens after the first row end
 unfoldable pub afterRow : List Token → List Token

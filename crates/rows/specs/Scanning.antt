@@ -1,34 +1,36 @@
 -- What the rules 13 to 15 need to know of a row and of all rows, gathered from the left.
 -- Assumes nothing.
-use Prim.Native.Nat.{ℕ, zero, suc, _+_}
-use mathlib.Core.Bool.{Bool, true, false, cond, not, _&&_, _||_}
+use Prim.Native.Nat.{ℕ, _+_, min}
+use mathlib.Core.Bool.{Bool, cond, not, _&&_, _||_}
 use mathlib.Core.List.{List, [], _∷_}
 use lib.Dec.{ltb, leb}
+use lib.ListN.{length}
 use Rattle.meaning.specs.declared.Token.{Token}
-use Rattle.meaning.specs.declared.Token.the-variants.{Character}
-use Rattle.meaning.specs.Lists.{firstBroken}
+use Rattle.meaning.specs.declared.Refusal.{Refusal}
+use Rattle.meaning.specs.declared.Format.{Format}
+use Rattle.meaning.specs.Lists.{all, any, keep}
+use Rattle.meaning.specs.Refusals.{firstBroken}
 use Rattle.meaning.specs.Codes.{isListed, isCharacter, takesCell, isDoubleHeight}
-use Rattle.meaning.specs.Rows.{linesOf}
+use Rattle.meaning.specs.Rows.{heightFirst, isShort, linesOf}
 use Rattle.rows.specs.declared.RowFacts.{RowFacts}
 use Rattle.rows.specs.declared.TextFacts.{TextFacts}
 
--- one more, up to a limit: beyond it no rule can tell counts apart
-unfoldable pub moreUpTo : ℕ → ℕ → ℕ
-moreUpTo limit n = cond (ltb n limit) (n + 1) n
-
--- as many more, up to a limit
-unfoldable pub manyUpTo : ℕ → ℕ → ℕ → ℕ
-manyUpTo limit n zero = n
-manyUpTo limit n (suc k) = manyUpTo limit (moreUpTo limit n) k
-
-unfoldable pub noRowFacts : RowFacts
-noRowFacts = record { cells = 0; listed = true; height = false; character = false; ordered = true }
+-- the facts of a row; its cells are counted up to 65: beyond that no rule can tell counts apart
+unfoldable pub factsOfRow : List Token → RowFacts
+factsOfRow ts =
+    record {
+      cells = min (length (keep takesCell ts)) 65;
+      listed = all isListed ts;
+      height = any isDoubleHeight ts;
+      character = any isCharacter ts;
+      ordered = heightFirst ts;
+    }
 
 -- one token more
 unfoldable pub withToken : RowFacts → Token → RowFacts
 withToken f t =
     record {
-      cells = cond (takesCell t) (moreUpTo 65 (f .cells)) (f .cells);
+      cells = cond (takesCell t) (min (f .cells + 1) 65) (f .cells);
       listed = isListed t && f .listed;
       height = isDoubleHeight t || f .height;
       character = isCharacter t || f .character;
@@ -37,36 +39,42 @@ withToken f t =
 
 -- n characters more; which ones makes no difference
 unfoldable pub withCharacters : RowFacts → ℕ → RowFacts
-withCharacters f zero = f
-withCharacters f (suc n) = withCharacters (withToken f (Character 0)) n
+withCharacters f n =
+    record {
+      cells = min (f .cells + n) 65;
+      listed = f .listed;
+      height = f .height;
+      character = f .character || ltb 0 n;
+      ordered = f .ordered;
+    }
 
-unfoldable pub rowFactsFrom : RowFacts → List Token → RowFacts
-rowFactsFrom f [] = f
-rowFactsFrom f (t ∷ ts) = rowFactsFrom (withToken f t) ts
-
-unfoldable pub noTextFacts : TextFacts
-noTextFacts = record { listed = true; height = false; ordered = true; short = true; rows = 0 }
+-- the facts of all rows, which are counted up to 256
+unfoldable pub factsOfRows : List (List Token) → TextFacts
+factsOfRows rs =
+    record {
+      listed = all (all isListed) rs;
+      height = any (any isDoubleHeight) rs;
+      ordered = all heightFirst rs;
+      short = all isShort rs;
+      rows = min (length rs) 256;
+    }
 
 -- one row more
 unfoldable pub withRow : TextFacts → RowFacts → TextFacts
 withRow a f =
     record {
-      listed = a .listed && f .listed;
-      height = a .height || f .height;
-      ordered = a .ordered && f .ordered;
-      short = a .short && leb (f .cells) 64;
-      rows = moreUpTo 256 (a .rows);
+      listed = f .listed && a .listed;
+      height = f .height || a .height;
+      ordered = f .ordered && a .ordered;
+      short = leb (f .cells) 64 && a .short;
+      rows = min (a .rows + 1) 256;
     }
 
-unfoldable pub textFactsFrom : TextFacts → List (List Token) → TextFacts
-textFactsFrom a [] = a
-textFactsFrom a (r ∷ rs) = textFactsFrom (withRow a (rowFactsFrom noRowFacts r)) rs
-
--- the number of the first of the rules 13 to 15 that the facts of a text break, or 0
-unfoldable pub ruleOf : TextFacts → Bool → Bool → ℕ → ℕ → ℕ
-ruleOf f double even end vp =
-    firstBroken
-    ((13, f .listed)
-    ∷ (14, f .ordered && (double || not (f .height)) && even)
-    ∷ (15, f .short && leb (vp + linesOf double (record { 0 = f .rows }) .0) end)
+-- the first of the rules 13 to 15 that the facts of a text break
+unfoldable pub ruleOf : TextFacts → Bool → Bool → Format → ℕ → ℕ → Refusal
+ruleOf t double even f place vp =
+    firstBroken place
+    ((13, t .listed)
+    ∷ (14, t .ordered && (double || not (t .height)) && even)
+    ∷ (15, t .short && leb (vp + linesOf double (record { 0 = t .rows }) .0) (f .screen .end))
     ∷ [])

@@ -1,54 +1,49 @@
 // The rules 13 to 15 over a set's text.
 
+ghost use Prim.Native.Nat.{_+_, min};
 ghost use mathlib.Core.Path.{_≡_};
-ghost use mathlib.Core.Bool.{cond};
-ghost use mathlib.Core.List.{[], _∷_};
-ghost use Rattle.meaning.specs.Lists.{firstBroken};
+ghost use mathlib.Core.List.{[]};
 ghost use Rattle.meaning.specs.Codes.{tokens, isRowEnd, isDoubleHeight};
 ghost use Rattle.meaning.specs.Rows.{isDouble, textRule};
-ghost use Rattle.rows.specs.Scanning.{moreUpTo, manyUpTo, noRowFacts, withToken, withCharacters, noTextFacts, withRow, ruleOf};
-ghost use Rattle.rows.specs.Scanned.{Scanned, endAt, nextRowAt, TextScanned};
+ghost use Rattle.rows.specs.Scanning.{factsOfRow, withToken, withCharacters, factsOfRows, withRow, ruleOf};
+ghost use Rattle.rows.specs.Scanned.{Scanned, nextRowAt, nextRow, TextScanned};
+use meaning::Format;
+use meaning::Refusal;
 use meaning::Rows;
 use meaning::Token;
 
 // What is known of a row: its cells, counted up to 65; whether all its codes are listed; whether 0Dh stands in it, and a
 // character; and whether no 0Dh stands after a character.
-pub struct RowFacts {
-    pub cells: u32,
-    pub listed: bool,
-    pub height: bool,
-    pub character: bool,
-    pub ordered: bool,
+struct RowFacts {
+    cells: u32,
+    listed: bool,
+    height: bool,
+    character: bool,
+    ordered: bool,
 }
 
 // One row of a text: its facts, whether a row end follows it, and the position after that.
-pub struct RowScan {
-    pub facts: RowFacts,
-    pub ended: bool,
-    pub next: usize,
+struct RowScan {
+    facts: RowFacts,
+    ended: bool,
+    next: usize,
 }
 
 // What is known of all rows; they are counted up to 256.
-pub struct TextFacts {
-    pub listed: bool,
-    pub height: bool,
-    pub ordered: bool,
-    pub short: bool,
-    pub rows: u32,
+struct TextFacts {
+    listed: bool,
+    height: bool,
+    ordered: bool,
+    short: bool,
+    rows: u32,
 }
 
-fn more_up_to(limit: u32, n: u32) -> u32
-    ensures { λ r. ⌜ r ≡ moreUpTo limit n ⌝ }
-{
-    if n < limit { n + 1 } else { n }
-}
-
-// n and more, up to a limit.
-fn many_up_to(limit: u32, n: u32, more: usize) -> u32
-    ensures { λ r. ⌜ r ≡ manyUpTo limit n more ⌝ }
+// The sum, up to a limit: beyond it no rule can tell counts apart.
+fn sum_up_to(limit: u32, n: u32, more: usize) -> u32
+    ensures { λ r. ⌜ r ≡ min (n + more) limit ⌝ }
 {
     if limit <= n {
-        return n;
+        return limit;
     }
     if (limit - n) as usize <= more {
         return limit;
@@ -80,7 +75,7 @@ fn is_double_height(t: Token) -> bool
 
 impl RowFacts {
     fn none() -> RowFacts
-        ensures { λ r. ⌜ r ≡ noRowFacts ⌝ }
+        ensures { λ r. ⌜ r ≡ factsOfRow [] ⌝ }
     {
         RowFacts {
             cells: 0,
@@ -95,7 +90,7 @@ impl RowFacts {
         ensures { λ r. ⌜ r ≡ withToken self t ⌝ }
     {
         let mut f = self;
-        f.cells = more_up_to(65, self.cells);
+        f.cells = sum_up_to(65, self.cells, 1);
         match t {
             Token::Character(_) => {
                 f.character = true;
@@ -121,7 +116,7 @@ impl RowFacts {
         ensures { λ r. ⌜ r ≡ withCharacters self n ⌝ }
     {
         let mut f = self;
-        f.cells = many_up_to(65, self.cells, n);
+        f.cells = sum_up_to(65, self.cells, n);
         f.character = self.character | (0 < n);
         f
     }
@@ -129,7 +124,7 @@ impl RowFacts {
 
 impl TextFacts {
     fn none() -> TextFacts
-        ensures { λ r. ⌜ r ≡ noTextFacts ⌝ }
+        ensures { λ r. ⌜ r ≡ factsOfRows [] ⌝ }
     {
         TextFacts {
             listed: true,
@@ -144,11 +139,11 @@ impl TextFacts {
         ensures { λ r. ⌜ r ≡ withRow self f ⌝ }
     {
         TextFacts {
-            listed: self.listed & f.listed,
-            height: self.height | f.height,
-            ordered: self.ordered & f.ordered,
-            short: self.short & (f.cells <= 64),
-            rows: more_up_to(256, self.rows),
+            listed: f.listed & self.listed,
+            height: f.height | self.height,
+            ordered: f.ordered & self.ordered,
+            short: (f.cells <= 64) & self.short,
+            rows: sum_up_to(256, self.rows, 1),
         }
     }
 }
@@ -180,44 +175,42 @@ fn scan_row(text: &[u8], start: usize) -> RowScan
     }
 }
 
-// A row end at a position, or none, and the position after it.
-pub struct EndRead {
-    pub found: bool,
-    pub after: usize,
+// The row after a row end: whether the run of row ends before it is even, where they are paired, and where it starts.
+struct NextRow {
+    even: bool,
+    start: usize,
 }
 
-fn end_at(text: &[u8], i: usize) -> EndRead
-    ensures { λ r. ⌜ r ≡ endAt (now (text .entry)) i ⌝ }
+// Given is the position after the row end; a second one is looked for only where row ends are paired.
+fn next_row_at(text: &[u8], paired: bool, next: usize) -> NextRow
+    ensures { λ r. ⌜ r ≡ nextRow (now (text .entry)) paired next ⌝ }
 {
-    if i < text.len() {
-        let read = charset::reading_at(text, i);
+    if paired {
+        let read = charset::reading_at(text, next);
         let t = read.token;
         if is_row_end(t) {
-            return EndRead {
-                found: true,
-                after: read.next,
+            return NextRow {
+                even: true,
+                start: read.next,
             };
         }
+        return NextRow {
+            even: false,
+            start: next,
+        };
     }
-    EndRead {
-        found: false,
-        after: i,
+    NextRow {
+        even: true,
+        start: next,
     }
-}
-
-// Where the next row starts: after the second row end of a pair, or after the one that there is.
-fn row_start(paired: bool, second: usize, first: usize) -> usize
-    ensures { λ r. ⌜ r ≡ cond paired second first ⌝ }
-{
-    if paired { second } else { first }
 }
 
 // Where the row after a row end starts, given the position after that row end.
 pub fn row_after(text: &[u8], paired: bool, next: usize) -> usize
     ensures { λ r. ⌜ r ≡ nextRowAt (now (text .entry)) paired next ⌝ }
 {
-    let second = end_at(text, next);
-    row_start(paired, second.after, next)
+    let row = next_row_at(text, paired, next);
+    row.start
 }
 
 // Whether a set's text is double height: whether 0Dh stands in its first row, mostly at the start.
@@ -239,10 +232,10 @@ pub fn is_double(text: &[u8]) -> bool
     false
 }
 
-// The scan of a whole text: the facts of all its rows, and whether every run of row ends is even.
-pub struct TextScan {
-    pub facts: TextFacts,
-    pub even: bool,
+// The scan of a whole text: the facts of all its rows, and whether every run of row ends is even, where they are paired.
+struct TextScan {
+    facts: TextFacts,
+    even: bool,
 }
 
 // The rows after the first, where row ends are paired or not.
@@ -256,10 +249,9 @@ fn scan_after(text: &[u8], paired: bool, first: RowScan) -> TextScan
     let mut more = first.ended;
     let mut next = first.next;
     while more {
-        let second = end_at(text, next);
-        even = even & second.found;
-        let start = row_start(paired, second.after, next);
-        let row = scan_row(text, start);
+        let after = next_row_at(text, paired, next);
+        even = even & after.even;
+        let row = scan_row(text, after.start);
         let f = row.facts;
         facts = facts.with_row(f);
         more = row.ended;
@@ -268,39 +260,26 @@ fn scan_after(text: &[u8], paired: bool, first: RowScan) -> TextScan
     TextScan { facts, even }
 }
 
-// The number of the first of three tests that fails, or 0.
-fn first_broken(listed: bool, heights: bool, fits: bool) -> u64
-    ensures { λ r. ⌜ r ≡ firstBroken ((13, listed) ∷ (14, heights) ∷ (15, fits) ∷ []) ⌝ }
+fn rule_of(t: TextFacts, double: bool, even: bool, f: Format, place: u64, vp: u8) -> Refusal
+    ensures { λ r. ⌜ r ≡ ruleOf t double even f place vp ⌝ }
 {
-    if listed {
-        if heights {
-            if fits { 0 } else { 15 }
-        } else {
-            14
-        }
-    } else {
-        13
-    }
+    let screen = f.screen;
+    let lines = Rows(t.rows).lines(double);
+    let end = vp as u64 + lines.0;
+    let rule = Refusal::NONE.or(place, 13, t.listed);
+    let rule = rule.or(place, 14, t.ordered & (double | !t.height) & even);
+    rule.or(place, 15, t.short & (end <= screen.end as u64))
 }
 
-fn rule_of(facts: TextFacts, double: bool, even: bool, end: u8, vp: u8) -> u64
-    ensures { λ r. ⌜ r ≡ ruleOf facts double even end vp ⌝ }
-{
-    let heights = facts.ordered & (double | !facts.height) & even;
-    let lines = Rows(facts.rows).lines(double);
-    let last = vp as u64 + lines.0;
-    first_broken(facts.listed, heights, facts.short & (last <= end as u64))
-}
-
-// The first of the rules 13, 14 and 15 that a set's text breaks, or 0. Its lines must end before line `end`.
-pub fn text_rule(text: &[u8], mode: u64, end: u8, vp: u8) -> u64
-    ensures { λ r. ⌜ r ≡ textRule mode end vp (tokens (now (text .entry))) ⌝ }
+// The first of the rules 13, 14 and 15 that the text of a set breaks, which begins at a place.
+pub fn text_rule(text: &[u8], f: Format, place: u64, vp: u8) -> Refusal
+    ensures { λ r. ⌜ r ≡ textRule f place vp (tokens (now (text .entry))) ⌝ }
 {
     let first = scan_row(text, 0);
-    let f = first.facts;
-    let double = f.height;
-    let paired = (mode == 2) & double;
+    let facts = first.facts;
+    let double = facts.height;
+    let paired = (f.mode == 2) & double;
     let scan = scan_after(text, paired, first);
-    let facts = scan.facts;
-    rule_of(facts, double, !paired | scan.even, end, vp)
+    let all = scan.facts;
+    rule_of(all, double, scan.even, f, place, vp)
 }

@@ -1,55 +1,58 @@
--- What the state of the assembly stands for, with the text buffer; and what it keeps from block to block.
+-- What the state of the assembly stands for, with the text buffer, and what a step brings.
 -- Assumes nothing.
-use Prim.Native.Nat.{ℕ, suc, _*_, _≤_}
-use mathlib.Core.Path.{_≡_}
-use mathlib.Core.Bool.{Bool, true, false}
+use Prim.Native.Nat.{ℕ, _+_}
+use mathlib.Core.Bool.{Bool, cond, not, _&&_, _||_}
 use mathlib.Core.List.{List}
 use mathlib.Core.Option.{Option, none, some}
+use lib.Dec.{leb}
 use lib.ListN.{length, take}
-use Rattle.meaning.specs.declared.Counts.{Counts}
-use Rattle.meaning.specs.Sets.{total, OpenSet, Assembly, Event}
+use Rattle.meaning.specs.declared.Format.{Format}
+use Rattle.meaning.specs.Blocks.{headerOf, blockText}
+use Rattle.meaning.specs.Sets.{OpenSet, Assembly, Event, isUser, advance}
 use Rattle.meaning.specs.Sets.Event.{broken, pending, closed}
+use Rattle.output.specs.Output.{stored}
+use Rattle.sets.specs.declared.Set.{Set}
+use Rattle.sets.specs.declared.Current.{Current}
+use Rattle.sets.specs.declared.Current.the-variants.{Between, Open}
 use Rattle.sets.specs.declared.Sets.{Sets}
 use Rattle.sets.specs.declared.Step.{Step}
-use Rattle.sets.specs.declared.Step.the-variants.{Refused, Pending, Closed}
+use Rattle.sets.specs.declared.Step.the-variants.{NoRoom, Broken, Pending, Closed}
 
--- the set of a state: its text stands at the front of the text buffer
-unfoldable pub setOf : Sets → List ℕ → OpenSet
-setOf s text = record { place = s .place; first = s .first; next = s .next; text = take (s .size) text }
+-- the longest text: 241 blocks of 112 bytes
+abbrev pub textRoom : ℕ
+textRoom = 26992
+
+-- a set: its text stands at the front of the text buffer
+unfoldable pub setOf : Set → List ℕ → OpenSet
+setOf s text = record { place = s .place; first = s .first; last = s .last; text = take (s .size) text }
+
+unfoldable pub currentOf : Current → List ℕ → Option OpenSet
+currentOf Between text = none
+currentOf (Open s) text = some (setOf s text)
 
 unfoldable pub assemblyOf : Sets → List ℕ → Assembly
-assemblyOf s text =
-    record { least = s .least; current = elim (s .open) [ true ↦ some (setOf s text) | false ↦ none ]; counts = s .counts }
+assemblyOf s text = record { least = s .least; current = currentOf (s .current) text }
 
--- what block k brought
-unfoldable pub eventOf : ℕ → Step → List ℕ → Event
-eventOf k (Refused n) text = broken n k
-eventOf k (Pending s) text = pending (assemblyOf s text)
-eventOf k (Closed s) text = closed (setOf s text) (assemblyOf s text)
+-- what a step brought, if there was room
+unfoldable pub eventOf : Step → List ℕ → Option Event
+eventOf NoRoom text = none
+eventOf (Broken r) text = some (broken r)
+eventOf (Pending s) text = some (pending (assemblyOf s text))
+eventOf (Closed c s) text = some (closed (setOf c text) (assemblyOf s text))
 
--- a state after k blocks: the text buffer has room for 241 texts, no more blocks are counted, and an open set leaves room for its next block
-pub record Ready (k : ℕ) (s : Sets) (text : List ℕ) : Type 0 where
-  pub room : length text ≡ 26992
-  pub few : total (s .counts) ≤ k
-  pub size : s .size ≤ 26992
-  pub fits : s .open ≡ true → (s .size ≤ 112 * s .next) × (s .next ≤ 240)
+-- where a block's text goes: behind that of the open set, or to the front
+unfoldable pub textEnd : Current → ℕ
+textEnd Between = 0
+textEnd (Open s) = s .size
 
--- what a step leaves: a refusal with a number, or a state that is ready
-abbrev pub ReadyIn : ℕ → Step → List ℕ → Type 0
-ReadyIn k (Refused n) text = n ≡ 0 → ⊥
-ReadyIn k (Pending s) text = Ready k s text
-ReadyIn k (Closed s) text = Ready k s text
+-- a text buffer has room for a block's text; user data needs none
+unfoldable pub hasRoom : List ℕ → Sets → List ℕ → Bool
+hasRoom b s text = isUser (headerOf b) || leb (textEnd (s .current) + length (blockText b)) (length text)
 
--- block k was taken: its event, and a state that is ready for the next
-pub record Stepped (k : ℕ) (r : Step) (text : List ℕ) (e : Event) : Type 0 where
-  pub event : eventOf k r text ≡ e
-  pub ready : ReadyIn (suc k) r text
+-- what a block brings, if there is room
+unfoldable pub eventIn : Format → ℕ → List ℕ → Sets → List ℕ → Option Event
+eventIn f place b s text = cond (hasRoom b s text) (some (advance f place b (assemblyOf s text))) none
 
--- block k, with an EBN, was added to the set of a state
-pub record Added (k ebn : ℕ) (s : Sets) (text : List ℕ) : Type 0 where
-  pub isOpen : s .open ≡ true
-  pub room : length text ≡ 26992
-  pub few : total (s .counts) ≤ suc k
-  pub size : s .size ≤ 112 * s .next
-  pub next : s .next ≤ 241
-  pub low : (ebn ≡ 255 → ⊥) → s .next ≤ 240
+-- the text buffer after a block
+unfoldable pub textAfter : List ℕ → Sets → List ℕ → List ℕ
+textAfter b s text = cond (hasRoom b s text && not (isUser (headerOf b))) (stored text (textEnd (s .current)) (blockText b)) text

@@ -1,170 +1,165 @@
-// The sets of a file, put together block by block: rules 7 to 12. The text of the open set stands in a buffer that the caller
-// lends, of 241 times 112 bytes.
+// The sets of a file, put together block by block: rules 7 to 12. The text of the open set stands at the front of a buffer that
+// the caller lends.
 
 ghost use mathlib.Core.Path.{_≡_};
-ghost use Prim.Native.Nat.{_+_, min};
-ghost use Rattle.meaning.specs.Sets.{belongs};
-ghost use Rattle.sets.specs.Stepping.{noSets, closeStep, openStep, furtherStep, textEnd, stepOf, textAfter};
-use counting::count_continuation;
-use counting::count_first;
-use counting::count_user;
-use meaning::Counts;
+ghost use mathlib.Core.List.{List, _++_};
+ghost use mathlib.Core.Option.{some};
+ghost use Prim.Native.Nat.{ℕ, _+_};
+ghost use lib.Dec.{leb};
+ghost use lib.ListN.{take};
+ghost use Rattle.meaning.specs.Sets.{closeAtLast, opening, goesOn, agrees, continuing};
+ghost use Rattle.meaning.specs.Walk.{isOpen};
+ghost use Rattle.sets.specs.Assembling.{setOf, assemblyOf, eventOf, textEnd, eventIn, textAfter};
 use meaning::Format;
 use meaning::Header;
-use meaning::Time;
+use meaning::Refusal;
 
-mod counting;
+// A set so far: the place and the header of its first block, the EBN of its last, and the size of its text.
+pub struct Set {
+    pub place: u64,
+    pub first: Header,
+    pub last: u8,
+    pub size: usize,
+}
 
-// What is known after some blocks: the least SN that the next set may have; whether a set is open; the place and the header of
-// its first block, the next EBN, and the size of its text; the counts.
+pub enum Current {
+    Between,
+    Open(Set),
+}
+
+// What is known after some blocks: the least SN that the next set may have, and the set that is not closed yet.
 pub struct Sets {
     pub least: u32,
-    pub open: bool,
-    pub place: usize,
-    pub first: Header,
-    pub next: u32,
-    pub size: usize,
-    pub counts: Counts,
+    pub current: Current,
 }
 
-// What one block brings: a broken rule, no closed set, or one.
+impl Sets {
+    // The longest text: 241 blocks of 112 bytes.
+    pub const ROOM: usize = 26992;
+
+    pub fn is_open(self) -> bool
+        ensures { λ r. ⌜ ((text : List ℕ) → r ≡ isOpen (assemblyOf self text)) ⌝ }
+    {
+        let current = self.current;
+        match current {
+            Current::Between => false,
+            Current::Open(_) => true,
+        }
+    }
+}
+
+// What one block brings: no room for its text, a broken rule, no closed set, or one.
 pub enum Step {
-    Refused(u64),
+    NoRoom,
+    Broken(Refusal),
     Pending(Sets),
-    Closed(Sets),
+    Closed(Set, Sets),
 }
 
-// Before the first block.
-pub fn none() -> Sets
-    ensures { λ r. ⌜ r ≡ noSets ⌝ }
+// A set with one block more: EBN FFh closes it.
+fn close_at_last(set: Set, least: u32) -> Step
+    ensures { λ r. ⌜ ((text : List ℕ) → eventOf r text ≡ some (closeAtLast (setOf set text) least)) ⌝ }
 {
-    let time = Time {
-        hours: 0,
-        minutes: 0,
-        seconds: 0,
-        frames: 0,
-    };
-    let first = Header {
-        sgn: 0,
-        sn: 0,
-        ebn: 0,
-        cs: 0,
-        tci: time,
-        tco: time,
-        vp: 0,
-        jc: 0,
-        cf: 0,
-    };
-    let counts = Counts {
-        subtitles: 0,
-        comments: 0,
-        continuations: 0,
-        users: 0,
-    };
-    Sets {
-        least: 0,
-        open: false,
-        place: 0,
-        first,
-        next: 0,
-        size: 0,
-        counts,
+    if set.last == 255 {
+        let sets = Sets {
+            least,
+            current: Current::Between,
+        };
+        return Step::Closed(set, sets);
     }
+    let sets = Sets {
+        least,
+        current: Current::Open(set),
+    };
+    Step::Pending(sets)
 }
 
-// A block was added to the open set: EBN FFh closes it.
-fn close_at_last(s: Sets, ebn: u8) -> Step
-    ensures { λ r. ⌜ r ≡ closeStep ebn s ⌝ }
-{
-    if ebn == 255 {
-        let mut r = s;
-        r.open = false;
-        return Step::Closed(r);
-    }
-    Step::Pending(s)
-}
-
-// Block k where no set is open: EBN 00h or FFh, then the rules 8 to 12. Its text has the given size.
-fn opening(f: Format, k: usize, h: Header, size: usize, s: Sets) -> Step
-    ensures { λ r. ⌜ r ≡ openStep f k h size s ⌝ }
+// A block where no set is open: EBN 00h or FFh, then the rules 8 to 12. Its text has the given size.
+fn opening(f: Format, place: u64, h: Header, size: usize, least: u32) -> Step
+    ensures { λ r. ⌜ ((text : List ℕ) → eventOf r text ≡ some (opening f place h (take size text) least)) ⌝ }
 {
     let ebn = h.ebn;
     if !((ebn == 0) | (ebn == 255)) {
-        return Step::Refused(7);
+        return Step::Broken(Refusal { number: 7, place });
     }
-    let rule = stl::first_block_rule(f, h, s.least);
-    if rule != 0 {
-        return Step::Refused(rule);
+    let rule = stl::first_block_rule(f, place, least, h);
+    if rule.number != 0 {
+        return Step::Broken(rule);
     }
-    let counts = count_first(s.counts, h);
-    let r = Sets {
-        least: h.sn as u32 + 1,
-        open: true,
-        place: k,
+    let set = Set {
+        place,
         first: h,
-        next: 1,
+        last: ebn,
         size,
-        counts,
     };
-    close_at_last(r, ebn)
+    close_at_last(set, h.sn as u32 + 1)
 }
 
-// Whether a block goes on with the open set: the next EBN, at most EFh, or FFh; and agreement in SGN, SN and CF.
-fn belongs(first: Header, next: u32, h: Header) -> bool
-    ensures { λ r. ⌜ r ≡ belongs first next h ⌝ }
+fn goes_on(last: u8, ebn: u8) -> bool
+    ensures { λ r. ⌜ r ≡ goesOn last ebn ⌝ }
 {
-    let ebn = h.ebn;
-    let goes_on = (ebn == 255) | ((ebn as u32 == next) & (ebn < 240));
-    goes_on & (h.sgn == first.sgn) & (h.sn == first.sn) & (h.cf == first.cf)
+    (ebn == 255) | ((ebn as u32 == last as u32 + 1) & (ebn < 240))
 }
 
-// The EBN after one; a set has at most 241 blocks.
-fn ebn_after(n: u32) -> u32
-    ensures { λ r. ⌜ r ≡ min (n + 1) 241 ⌝ }
+fn agrees(first: Header, h: Header) -> bool
+    ensures { λ r. ⌜ r ≡ agrees first h ⌝ }
 {
-    if n < 241 { n + 1 } else { 241 }
+    (h.sgn == first.sgn) & (h.sn == first.sn) & (h.cf == first.cf)
 }
 
-// A block of the open set, whose text ends at the given size.
-fn continuing(h: Header, size: usize, s: Sets) -> Step
-    ensures { λ r. ⌜ r ≡ furtherStep h size s ⌝ }
+// A block of the open set, with which the set's text has the given size.
+fn continuing(place: u64, h: Header, size: usize, set: Set, least: u32) -> Step
+    ensures { λ r. ⌜ ((text old part : List ℕ) → take size text ≡ old ++ part → eventOf r text ≡ some (continuing place h part (record { place = set .place; first = set .first; last = set .last; text = old }) least)) ⌝ }
 {
-    let first = s.first;
-    if !belongs(first, s.next, h) {
-        return Step::Refused(7);
+    let first = set.first;
+    let rule = Refusal::NONE.or(place, 7, goes_on(set.last, h.ebn));
+    let rule = rule.or(place, 7, agrees(first, h));
+    if rule.number != 0 {
+        return Step::Broken(rule);
     }
-    let counts = count_continuation(s.counts);
-    let next = ebn_after(s.next);
-    let mut r = s;
-    r.next = next;
-    r.size = size;
-    r.counts = counts;
-    close_at_last(r, h.ebn)
+    let mut longer = set;
+    longer.last = h.ebn;
+    longer.size = size;
+    close_at_last(longer, least)
 }
 
-// Where the next text goes: behind that of the open set, or to the front.
-fn text_end(s: Sets) -> usize
-    ensures { λ r. ⌜ r ≡ textEnd s ⌝ }
+// Where a block's text goes: behind that of the open set, or to the front.
+fn text_end(current: Current) -> usize
+    ensures { λ r. ⌜ r ≡ textEnd current ⌝ }
 {
-    if s.open { s.size } else { 0 }
+    match current {
+        Current::Between => 0,
+        Current::Open(set) => set.size,
+    }
 }
 
-// Block k: user data is passed over wherever it stands. The text buffer has the set's text at its front, as far as there is room.
-pub fn advance(f: Format, k: usize, bytes: &[u8], text: &mut [u8], s: Sets) -> Step
-    ensures step { λ r. ⌜ r ≡ stepOf f k (now (bytes .entry)) s ⌝ }
+fn has_room(room: usize, at: usize, n: usize) -> bool
+    ensures { λ r. ⌜ r ≡ leb (at + n) room ⌝ }
+{
+    if room < at {
+        return false;
+    }
+    n <= room - at
+}
+
+// One block: user data is passed over wherever it stands.
+pub fn advance(f: Format, place: u64, bytes: &[u8], text: &mut [u8], s: Sets) -> Step
+    ensures step { λ r. ⌜ eventOf r (now (text .exit)) ≡ eventIn f place (now (bytes .entry)) s (now (text .entry)) ⌝ }
     ensures text { λ _. ⌜ now (text .exit) ≡ textAfter (now (bytes .entry)) s (now (text .entry)) ⌝ }
 {
     let h = block::header_of(bytes);
-    if h.ebn == 254 {
-        let counts = count_user(s.counts);
-        let mut r = s;
-        r.counts = counts;
-        return Step::Pending(r);
+    if h.is_user() {
+        return Step::Pending(s);
     }
     let part = block::text_of(bytes);
-    let size = output::put(text, text_end(s), part);
-    if s.open {
-        return continuing(h, size, s);
+    let current = s.current;
+    let at = text_end(current);
+    if !has_room(text.len(), at, part.len()) {
+        return Step::NoRoom;
     }
-    opening(f, k, h, size, s)
+    let size = output::put(text, at, part);
+    match current {
+        Current::Between => opening(f, place, h, size, s.least),
+        Current::Open(set) => continuing(place, h, size, set, s.least),
+    }
 }

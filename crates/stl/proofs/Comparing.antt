@@ -9,8 +9,8 @@ use mathlib.Core.Path.{_≡_, refl, sym, ap, _∙_}
 use lib.ListN.{length, drop, getD, drop-of-length-le}
 use lib.Seq.{drop-cons}
 use borrow.Author.Tests.{eq-eqb, ne-eqb}
-use Rattle.meaning.specs.Gsi.{field, rateOf}
-use Rattle.meaning.specs.Lists.{same, bytes}
+use Rattle.meaning.specs.Gsi.{rateOf}
+use Rattle.meaning.specs.Lists.{same, bytes, field}
 
 module _ (x y : ℕ) (xs ys : List ℕ) where
   same-here : x ≡ y → same (x ∷ xs) (y ∷ ys) ≡ same xs ys

@@ -1,4 +1,2 @@
 pub mod Comparing
 pub mod Digits
-pub mod Times
-pub mod Turns

@@ -7,9 +7,9 @@ ghost use lib.Dec.{leb, eqb};
 ghost use lib.ListN.{length, getD};
 ghost use Rattle.meaning.specs.Lists.{all, same};
 ghost use Rattle.meaning.specs.Gsi.{rateOf, formatOf, blockCount, isDigit, valueFrom, fileRule};
-use crate::rules::in_turn;
 use block::field;
 use meaning::Format;
+use meaning::Refusal;
 use meaning::Screen;
 
 fn same(a: &[u8], b: &[u8]) -> bool
@@ -28,7 +28,7 @@ fn same(a: &[u8], b: &[u8]) -> bool
     true
 }
 
-pub fn rate(file: &[u8]) -> u64
+fn rate(file: &[u8]) -> u8
     ensures { λ r. ⌜ r ≡ rateOf (now (file .entry)) ⌝ }
 {
     let dfc = field(file, 3, 8);
@@ -108,13 +108,14 @@ fn writes(digits: &[u8], n: usize) -> bool
     value == n
 }
 
-pub fn file_rule(file: &[u8], mode: u64) -> u64
+// The first of the rules 1 to 6 that a break mode and a file break.
+pub fn file_rule(file: &[u8], mode: u64) -> Refusal
     ensures { λ r. ⌜ r ≡ fileRule mode (now (file .entry)) ⌝ }
 {
-    let rule = in_turn(0, 1, is_either(mode, 1, 2));
-    let rule = in_turn(rule, 2, is_whole(file.len()));
-    let rule = in_turn(rule, 3, is_either(rate(file), 25, 30));
-    let rule = in_turn(rule, 4, is_either(byte(file, 11) as u64, 49, 50));
-    let rule = in_turn(rule, 5, same(field(file, 12, 2), b"00"));
-    in_turn(rule, 6, writes(field(file, 238, 5), block_count(file)))
+    let rule = Refusal::NONE.or(0, 1, is_either(mode, 1, 2));
+    let rule = rule.or(0, 2, is_whole(file.len()));
+    let rule = rule.or(0, 3, is_either(rate(file) as u64, 25, 30));
+    let rule = rule.or(0, 4, is_either(byte(file, 11) as u64, 49, 50));
+    let rule = rule.or(0, 5, same(field(file, 12, 2), b"00"));
+    rule.or(0, 6, writes(field(file, 238, 5), block_count(file)))
 }

@@ -7,5 +7,4 @@ mod rules;
 pub use gsi::block_count;
 pub use gsi::file_rule;
 pub use gsi::format;
-pub use gsi::rate;
 pub use rules::first_block_rule;

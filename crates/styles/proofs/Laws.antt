@@ -1,15 +1,18 @@
--- The lines of the marked looks, from one look on; and that the marked looks are those in use where the marks say so.
+-- The lines of the marked looks, look by look; and that the marked looks are those in use where the marks say so.
 -- Assumes nothing.
-use mathlib.Core.Path.{_≡_, refl}
+use mathlib.Core.Path.{_≡_, refl, ap}
 use mathlib.Core.Bool.{Bool, true, false, cond}
 use mathlib.Core.List.{List, [], _∷_, _++_}
-use Prim.Native.Nat.{ℕ, zero, suc, _+_, _-_, _<_, _≤_}
+use Prim.Native.Nat.{ℕ, zero, suc, _+_, _<_, _≤_}
+use native.Mathlib.Nat.{add-zero}
 use native.Mathlib.Numerals.{add-one}
 use native.Mathlib.Omega.{arith}
 use lib.ListN.{getD}
 use Rattle.meaning.specs.Lists.{keep, upFrom, joinMap}
 use Rattle.meaning.specs.Looks.{lookCount}
 use Rattle.meaning.specs.Document.{Paragraph, writeStyle, isUsed, looksUsed}
+use Rattle.output.specs.Output.{Wrote}
+use Rattle.output.proofs.Laws.{wrote-more}
 use Rattle.styles.specs.Styles.{isOn, looksMarked}
 
 keep-first : (p : ℕ → Bool) (k : ℕ) (ks : List ℕ) → keep p (k ∷ ks) ≡ cond (p k) (k ∷ keep p ks) (keep p ks)
@@ -25,15 +28,37 @@ unfolding joinMap
 join-first f true k ks = refl
 join-first f false k ks = refl
 
--- the lines of the marked looks from one look on
-unfoldable pub linesFrom : List Bool → ℕ → List ℕ
-linesFrom on look = joinMap writeStyle (keep (isOn on) (upFrom (lookCount - look) look))
+-- the line of a look if it is marked, and the lines of the first looks
+unfoldable pub lineIf : List Bool → ℕ → List ℕ
+lineIf on look = cond (getD on look false) (writeStyle look) []
 
-pub lines-next : (on : List Bool) (look : ℕ) → look < lookCount → linesFrom on look ≡ cond (getD on look false) (writeStyle look) [] ++ linesFrom on (look + 1)
-unfolding linesFrom upFrom isOn
-lines-next on look h =
-    let e : lookCount - look ≡ suc (lookCount - (look + 1)) = omega arith in
-    rw (e, add-one, keep-first, join-first)
+unfoldable pub linesTo : List Bool → ℕ → List ℕ
+linesTo on n = joinMap (lineIf on) (upFrom n 0)
+
+up-more : (n k : ℕ) → upFrom (suc n) k ≡ upFrom n k ++ (k + n) ∷ []
+unfolding upFrom
+up-more zero k = rw add-zero
+up-more (suc n) k =
+    let e : k + suc n ≡ suc k + n = omega arith in
+    rw e (ap (λ (ks : List ℕ). k ∷ ks) (up-more n (suc k)))
+
+-- one look more
+pub lines-more :
+    (on : List Bool) (n : ℕ) {buf b1 b2 : List ℕ} {at r1 r2 : ℕ} → Wrote buf at (linesTo on n) b1 r1
+    → Wrote b1 r1 (cond (getD on n false) (writeStyle n) []) b2 r2 → Wrote buf at (linesTo on (n + 1)) b2 r2
+unfolding linesTo lineIf
+lines-more on n w v =
+    let z : 0 + n ≡ n = omega arith in
+    rw (add-one, up-more n 0, z) (wrote-more (lineIf on) (upFrom n 0) n w v)
+
+lines-marked : (on : List Bool) (ks : List ℕ) → joinMap writeStyle (keep (isOn on) ks) ≡ joinMap (lineIf on) ks
+unfolding joinMap keep isOn lineIf
+lines-marked on [] = refl
+lines-marked on (k ∷ ks) = rw (keep-first (isOn on) k ks, join-first, lines-marked on ks)
+
+pub lines-all : (on : List Bool) → joinMap writeStyle (looksMarked on) ≡ linesTo on lookCount
+unfolding linesTo looksMarked
+lines-all on = lines-marked on (upFrom lookCount 0)
 
 keep-same : (p q : ℕ → Bool) (n k : ℕ) → ((j : ℕ) → k ≤ j → j < k + n → p j ≡ q j) → keep p (upFrom n k) ≡ keep q (upFrom n k)
 unfolding upFrom keep

@@ -2,38 +2,26 @@
 
 use meaning::Look;
 ghost use mathlib.Core.Path.{_≡_};
-ghost use mathlib.Core.Bool.{true, false, cond};
+ghost use mathlib.Core.Bool.{true, cond};
 ghost use mathlib.Core.List.{[]};
-ghost use lib.ListN.{set, replicate};
+ghost use lib.ListN.{set};
 ghost use Rattle.meaning.specs.Lists.{joinMap};
-ghost use Rattle.meaning.specs.Looks.{lookCount};
 ghost use Rattle.meaning.specs.Document.{styleName, channel, colourName, writeStyle};
 ghost use Rattle.output.specs.Output.{Wrote};
 ghost use Rattle.styles.specs.Styles.{looksMarked};
 
-// A mark for each look: all clear at the start, and set for the looks in use.
+// A mark for each look, set for the looks in use.
 pub struct Marks {
     pub on: [bool; Look::COUNT],
 }
 
-impl Marks {
-    pub fn clear() -> Marks
-        ensures { λ r. ⌜ r .on ≡ replicate lookCount false ⌝ }
-    {
-        Marks {
-            on: [false; Look::COUNT],
-        }
-    }
-
-    // A number that no look has marks nothing.
-    pub fn marked(mut self, look: u16) -> Marks
-        ensures { λ r. ⌜ r .on ≡ set (self .on) look true ⌝ }
-    {
-        let k = look as usize;
-        if k < Look::COUNT {
-            self.on[k] = true;
-        }
-        self
+// A number that no look has marks nothing.
+pub fn mark(on: &mut [bool], look: u16)
+    ensures { λ _. ⌜ now (on .exit) ≡ set (now (on .entry)) look true ⌝ }
+{
+    let k = look as usize;
+    if k < on.len() {
+        on[k] = true;
     }
 }
 

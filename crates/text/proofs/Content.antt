@@ -1,18 +1,19 @@
 -- Rows and filler lines together are the content of a text; a text within the rules is not cut.
 -- Assumes nothing.
-use Prim.Native.Nat.{ℕ, suc, _-_, _≤_, _<_, min}
+use Prim.Native.Nat.{ℕ, suc, _<_, min}
 use native.Mathlib.Omega.{arith}
-use mathlib.Core.Path.{_≡_, refl, sym, ap, _∙_}
+use mathlib.Core.Path.{_≡_, refl, ap, _∙_}
 use mathlib.Core.Bool.{Bool, true, false, _&&_}
 use mathlib.Core.List.{List, [], _∷_, map}
-use lib.Dec.{eqb, leb}
-use lib.ListN.{length, take, replicate, length-map}
+use lib.Dec.{eqb}
+use lib.ListN.{length, replicate, length-map}
 use lib.Seq.{take-all}
 use borrow.Author.Tests.{leb-true}
-use Rattle.meaning.specs.declared.Rows.{Rows}
+use Rattle.meaning.specs.declared.Format.{Format}
 use Rattle.meaning.specs.declared.Lines.{Lines}
 use Rattle.meaning.specs.declared.Token.{Token}
 use Rattle.meaning.specs.Lists.{all, keep, joinMap}
+use Rattle.meaning.specs.Refusals.{isGood}
 use Rattle.meaning.specs.Codes.{tokens, takesCell}
 use Rattle.meaning.specs.Rows.{isDouble, breaksPaired, rows, linesOf, rowCount, isShort, rowsFit, textRule}
 use Rattle.meaning.specs.declared.Pen.{Pen}
@@ -22,7 +23,8 @@ use Rattle.meaning.specs.Document.Piece.{br}
 use Rattle.meaning.specs.Conversion.{rowPieces, fillers, pieces}
 use Rattle.meaning.proofs.Bounds.{cells-length}
 use Rattle.meaning.proofs.Logic.{and-parts}
-use Rattle.meaning.proofs.ListLaws.{test-split, unbroken}
+use Rattle.meaning.proofs.ListLaws.{test-split}
+use Rattle.meaning.proofs.RefusalLaws.{unbroken}
 use Rattle.output.specs.Output.{Wrote}
 use Rattle.rows.specs.FirstRow.{rowsOf}
 use Rattle.rows.proofs.Laws.{rows-are}
@@ -43,18 +45,18 @@ rows-length p [] = refl
 rows-length p (r ∷ rs) = ap suc (rows-length (penAfterRow p r) rs)
 
 pub content-laid :
-    {text : List ℕ} (mode end vp : ℕ) {double : Bool} {buf b1 b2 : List ℕ} {t : Tally} {l : RowsLaid} {lines : Lines} {n q : ℕ}
-    {pen : Pen} → end < 256 → double ≡ isDouble (tokens text) → pen ≡ newPen double → RowsDone text pen (eqb mode 2 && double) buf t b1 l → lines ≡ linesOf double (record { 0 = l .rows })
-    → n ≡ fillers end vp lines .0 → Wrote b1 (l .tally .at) (joinMap writePiece (replicate n br)) b2 q
-    → PiecesLaid buf t (contentOf mode end vp text) b2 (record { at = q; spans = l .tally .spans; marks = l .tally .marks })
+    {text : List ℕ} (f : Format) (vp : ℕ) {double : Bool} {buf b1 b2 : List ℕ} {on on′ : List Bool} {t : Tally} {l : RowsLaid} {lines : Lines} {n q : ℕ}
+    {pen : Pen} → f .screen .end < 256 → double ≡ isDouble (tokens text) → pen ≡ newPen double → RowsDone text pen (eqb (f .mode) 2 && double) buf on t b1 on′ l
+    → lines ≡ linesOf double (record { 0 = l .rows }) → n ≡ fillers (f .screen .end) vp lines .0 → Wrote b1 (l .tally .at) (joinMap writePiece (replicate n br)) b2 q
+    → PiecesLaid buf on t (contentOf f vp text) b2 on′ (record { at = q; spans = l .tally .spans })
 unfolding contentOf pieces rowCount breaksPaired
-content-laid {text} mode end vp {double} {l = l} {n = n} short e h d f g p =
+content-laid {text} f vp {double} {l = l} {n = n} short e h d g k p =
     let ts = tokens text in
-    let rs = rowsOf (eqb mode 2 && double) ts in
+    let rs = rowsOf (eqb (f .mode) 2 && double) ts in
     let cs = cellRows (newPen double) rs in
-    let k : n ≡ fillers end vp (linesOf double (record { 0 = length (map cut64 cs) })) .0 =
-    g ∙ rw (f, d .rows, length-map cs cut64, rows-length (newPen double) rs) (fillers-capped end vp short double (length rs)) in
-    rw (rows-are mode ts, ← e, ← k) (then-breaks (rowPieces (map cut64 cs)) n (rw h at (d .laid)) p)
+    let m : n ≡ fillers (f .screen .end) vp (linesOf double (record { 0 = length (map cut64 cs) })) .0 =
+    k ∙ rw (g, d .rows, length-map cs cut64, rows-length (newPen double) rs) (fillers-capped (f .screen .end) vp short double (length rs)) in
+    rw (rows-are (f .mode) ts, ← e, ← m) (then-breaks (rowPieces (map cut64 cs)) n (rw h at (d .laid)) p)
 
 uncut : (p : Pen) (r : List Token) → isShort r ≡ true → cut64 (cellsOfRow p r) ≡ cellsOfRow p r
 unfolding cut64 isShort
@@ -67,17 +69,17 @@ uncut-rows p (r ∷ rs) e =
     let s = test-split isShort r rs e in
     rw (uncut p r (s .0)) (ap (λ (cs : List (List Cell)). cellsOfRow p r ∷ cs) (uncut-rows (penAfterRow p r) rs (s .1)))
 
-short-rows : (mode end vp : ℕ) (ts : List Token) → textRule mode end vp ts ≡ 0 → all isShort (rows mode ts) ≡ true
+short-rows : (f : Format) (place vp : ℕ) (ts : List Token) → isGood (textRule f place vp ts) ≡ true → all isShort (rows (f .mode) ts) ≡ true
 unfolding textRule rowsFit
-short-rows mode end vp ts e =
-    let r₁₃ = unbroken _ _ _ e in
-    let r₁₄ = unbroken _ _ _ (r₁₃ .1) in
-    and-parts (all isShort (rows mode ts)) _ (unbroken _ _ _ (r₁₄ .1) .0) .0
+short-rows f place vp ts e =
+    let r = unbroken _ _ _ _ (unbroken _ _ _ _ e .1) in
+    and-parts (all isShort (rows (f .mode) ts)) _ (unbroken _ _ _ _ (r .1) .0) .0
 
 -- the content of a text within the rules 13 to 15 is that of its subtitle
 pub content-whole :
-    (mode end vp : ℕ) (text : List ℕ) → textRule mode end vp (tokens text) ≡ 0
-    → contentOf mode end vp text ≡ pieces end vp (isDouble (tokens text)) (cellRows (newPen (isDouble (tokens text))) (rows mode (tokens text)))
+    (f : Format) (place vp : ℕ) (text : List ℕ) → isGood (textRule f place vp (tokens text)) ≡ true
+    → contentOf f vp text ≡ pieces (f .screen .end) vp (isDouble (tokens text)) (cellRows (newPen (isDouble (tokens text))) (rows (f .mode) (tokens text)))
 unfolding contentOf
-content-whole mode end vp text e =
-    ap (pieces end vp (isDouble (tokens text))) (uncut-rows (newPen (isDouble (tokens text))) (rows mode (tokens text)) (short-rows mode end vp (tokens text) e))
+content-whole f place vp text e =
+    ap (pieces (f .screen .end) vp (isDouble (tokens text)))
+    (uncut-rows (newPen (isDouble (tokens text))) (rows (f .mode) (tokens text)) (short-rows f place vp (tokens text) e))

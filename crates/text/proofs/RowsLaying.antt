@@ -4,26 +4,25 @@ use Prim.Native.Nat.{ℕ, suc, _+_, _≤_, min}
 use native.Mathlib.Omega.{arith}
 use mathlib.Core.Path.{_≡_, sym, ap, _∙_}
 use mathlib.Core.Bool.{Bool, true, false}
-use mathlib.Core.List.{List, [], _∷_, map}
+use mathlib.Core.List.{List, _∷_, map}
 use lib.ListN.{length, drop}
 use Rattle.meaning.specs.declared.Token.{Token}
 use Rattle.meaning.specs.Codes.{tokens}
 use Rattle.meaning.specs.declared.Pen.{Pen}
-use Rattle.meaning.specs.Cells.{Cell, cellsOfRow, penAfterRow, cellRows}
+use Rattle.meaning.specs.Cells.{cellsOfRow, penAfterRow, cellRows}
 use Rattle.meaning.specs.Lists.{joinMap}
 use Rattle.meaning.specs.Document.{Piece, writePiece, looksOf}
 use Rattle.meaning.specs.Document.Piece.{span, br}
 use Rattle.meaning.specs.Conversion.{rowSpans, laterRows, rowPieces}
-use Rattle.output.specs.Output.{past, Wrote}
+use Rattle.output.specs.Output.{Wrote}
 use Rattle.rows.specs.FirstRow.{firstRow, afterRow, isEnded, rowsOf, rowsAfter}
 use Rattle.rows.specs.Scanned.{nextRowAt}
 use Rattle.rows.proofs.Laws.{rows-first, rows-after, no-rows-after}
-use Rattle.rows.proofs.RowEnds.{rest-after, on-after, next-rows}
+use Rattle.rows.proofs.RowEnds.{rest-after, next-rows}
 use Rattle.text.specs.declared.Tally.{Tally}
 use Rattle.text.specs.declared.RowLaid.{RowLaid}
-use Rattle.text.specs.declared.RowsLaid.{RowsLaid}
-use Rattle.text.specs.Laid.{cut64, PiecesLaid, RowDone, RowsDone}
-use Rattle.text.proofs.Laws.{wrote-then, pieces-then, laid-fits, LaidLeft, left-all, left-less, left-none}
+use Rattle.text.specs.Laid.{cut64, RowDone, RowsDone}
+use Rattle.text.proofs.Laws.{wrote-then, pieces-then, laid-here, LaidLeft, left-all, left-less, left-none}
 
 module _ (text : List ℕ) (paired : Bool) where
   -- the pieces of the rows after the first of a run of tokens, from the pen after that row
@@ -31,63 +30,66 @@ module _ (text : List ℕ) (paired : Bool) where
   after pen ts = laterRows (map cut64 (cellRows pen (rowsAfter paired ts)))
 
   -- `row` is what stands from the row laid last on; the rows after it are still to come
-  pub record RowsLeft (buf : List ℕ) (t : Tally) (first : Pen) (out : List ℕ) (s : Tally) (pen : Pen) (more : Bool) (next n : ℕ) : Type 0 where
+  pub record RowsLeft (buf : List ℕ) (on : List Bool) (t : Tally) (first : Pen) (out : List ℕ) (marks : List Bool) (s : Tally) (pen : Pen) (more : Bool) (next n : ℕ) : Type 0 where
     pub row : List Token
     pub ended : more ≡ isEnded row
     pub rest : tokens (drop next text) ≡ afterRow row
-    pub left : LaidLeft buf t (after first (tokens text)) out s (after pen row)
+    pub left : LaidLeft buf on t (after first (tokens text)) out marks s (after pen row)
     pub count : min (n + length (rowsAfter paired row)) 256 ≡ min (length (rowsOf paired (tokens text))) 256
     pub few : n ≤ 256
-    pub within : more ≡ true → next ≤ length text
 
   -- the first row is laid
-  pub rows-all : {pen : Pen} {buf out : List ℕ} {t : Tally} {r : RowLaid} → RowDone text 0 pen buf t out r → RowsLeft out (r .tally) (r .pen) out (r .tally) (r .pen) (r .ended) (r .next) 1
+  pub rows-all :
+      {pen : Pen} {buf out : List ℕ} {on marks : List Bool} {t : Tally} {r : RowLaid} → RowDone text 0 pen buf on t out marks r
+      → RowsLeft out marks (r .tally) (r .pen) out marks (r .tally) (r .pen) (r .ended) (r .next) 1
   rows-all {r = r} d =
-      let f = laid-fits (d .laid) in
       record {
         row = tokens text;
         ended = d .ended;
         rest = rest-after text 0 (d .next);
-        left = left-all _ (r .tally) (after (r .pen) (tokens text)) (f .0) (f .1) (f .2);
+        left = left-all (after (r .pen) (tokens text)) (laid-here (d .laid));
         count = rw (rows-first paired (tokens text)) (ap (λ (n : ℕ). min n 256) (omega arith));
         few = omega arith;
-        within = λ z. on-after text 0 (d .next) (d .ended) z .1;
       }
 
-  module _ {buf : List ℕ} {t : Tally} {first : Pen} {out : List ℕ} {s : Tally} {pen : Pen} {more : Bool} {next n : ℕ} (l : RowsLeft buf t first out s pen more next n) where
-    -- one row more
-    pub rows-less :
-        {start p : ℕ} {out₁ out₂ : List ℕ} {r : RowLaid} {m : ℕ} → more ≡ true → start ≡ nextRowAt text paired next
-        → Wrote out (s .at) (writePiece br) out₁ p → RowDone text start pen out₁ (record { at = p; spans = s .spans; marks = s .marks }) out₂ r → m ≡ min (n + 1) 256
-        → RowsLeft buf t first out₂ (r .tally) (r .pen) (r .ended) (r .next) m
-    unfolding laterRows cellRows
-    rows-less {start} {m = m} e q b d k =
-        let us = tokens (drop start text) in
-        let o : rowsAfter paired (l .row) ≡ firstRow us ∷ rowsAfter paired us =
-        rows-after paired (l .row) (sym (l .ended) ∙ e) ∙ ap (rowsOf paired) (sym (next-rows text paired next (l .row) q (l .rest))) ∙ rows-first paired us in
-        let c : length (rowsAfter paired (l .row)) ≡ suc (length (rowsAfter paired us)) = ap length o in
-        record {
-          row = us;
-          ended = d .ended;
-          rest = rest-after text start (d .next);
-          left =
-              rw (d .after)
-              (left-less (br ∷ map span (rowSpans (cut64 (cellsOfRow pen (firstRow us))))) (after (penAfterRow pen (firstRow us)) us)
-              (rw o at (l .left)) (unfold joinMap looksOf in wrote-then b (d .laid)));
-          count = rw k (omega (arith, l .count, c));
-          few = omega arith;
-          within = λ z. on-after text start (d .next) (d .ended) z .1;
-        }
+  -- one row more
+  pub rows-less :
+      {buf out out₁ out₂ : List ℕ} {on marks marks′ : List Bool} {t s : Tally} {first pen : Pen} {more : Bool} {next n start p m : ℕ} {r : RowLaid}
+      → RowsLeft buf on t first out marks s pen more next n → more ≡ true → start ≡ nextRowAt text paired next
+      → Wrote out (s .at) (writePiece br) out₁ p → RowDone text start pen out₁ marks (record { at = p; spans = s .spans }) out₂ marks′ r → m ≡ min (n + 1) 256
+      → RowsLeft buf on t first out₂ marks′ (r .tally) (r .pen) (r .ended) (r .next) m
+  unfolding laterRows cellRows
+  rows-less {pen = pen} {next = next} {start = start} l e q b d k =
+      let us = tokens (drop start text) in
+      let o : rowsAfter paired (l .row) ≡ firstRow us ∷ rowsAfter paired us =
+      rows-after paired (l .row) (sym (l .ended) ∙ e) ∙ ap (rowsOf paired) (sym (next-rows text paired next (l .row) q (l .rest))) ∙ rows-first paired us in
+      let c : length (rowsAfter paired (l .row)) ≡ suc (length (rowsAfter paired us)) = ap length o in
+      record {
+        row = us;
+        ended = d .ended;
+        rest = rest-after text start (d .next);
+        left =
+            rw (d .after)
+            (left-less (br ∷ map span (rowSpans (cut64 (cellsOfRow pen (firstRow us))))) (after (penAfterRow pen (firstRow us)) us)
+            (rw o at (l .left)) (unfold joinMap looksOf in wrote-then b (d .laid)));
+        count = rw k (omega (arith, l .count, c));
+        few = omega arith;
+      }
 
-    -- no row is left
-    pub rows-none : more ≡ false → {start : Pen} {buf₀ : List ℕ} {t₀ : Tally} {r : RowLaid} → RowDone text 0 start buf₀ t₀ buf r → r .tally ≡ t → r .pen ≡ first → RowsDone text start paired buf₀ t₀ out (record { tally = s; rows = n })
-    unfolding laterRows rowPieces cellRows
-    rows-none e {start} {r = r} d h f =
-        let o = no-rows-after paired (l .row) (sym (l .ended) ∙ e) in
-        let c : length (rowsAfter paired (l .row)) ≡ 0 = ap length o in
-        let z : PiecesLaid buf t (after first (tokens text)) out s = left-none (rw o at (l .left)) in
-        let y : PiecesLaid buf (r .tally) (after (penAfterRow start (firstRow (tokens text))) (tokens text)) out s = rw (h, ← (d .after), f) z in
-        record {
-          laid = rw (rows-first paired (tokens text)) (pieces-then (map span (rowSpans (cut64 (cellsOfRow start (firstRow (tokens text)))))) (after (penAfterRow start (firstRow (tokens text))) (tokens text)) (d .laid) y);
-          rows = omega (arith, l .count, l .few, c);
-        }
+  -- no row is left after the first that was laid and those after it
+  pub rows-none :
+      {start pen : Pen} {buf₀ buf out : List ℕ} {on₀ on marks : List Bool} {t₀ s : Tally} {r : RowLaid} {more : Bool} {next n : ℕ}
+      → RowDone text 0 start buf₀ on₀ t₀ buf on r → RowsLeft buf on (r .tally) (r .pen) out marks s pen more next n → more ≡ false
+      → RowsDone text start paired buf₀ on₀ t₀ out marks (record { tally = s; rows = n })
+  unfolding laterRows rowPieces cellRows
+  rows-none {start} d l e =
+      let ts = tokens text in
+      let o = no-rows-after paired (l .row) (sym (l .ended) ∙ e) in
+      let c : length (rowsAfter paired (l .row)) ≡ 0 = ap length o in
+      record {
+        laid =
+            rw (rows-first paired ts)
+            (pieces-then (map span (rowSpans (cut64 (cellsOfRow start (firstRow ts))))) (after (penAfterRow start (firstRow ts)) ts) (d .laid)
+            (rw (d .after) at (left-none (rw o at (l .left)))));
+        rows = omega (arith, l .count, l .few, c);
+      }

@@ -5,16 +5,16 @@ use mathlib.Core.Path.{_≡_}
 use mathlib.Core.Bool.{Bool, true}
 use mathlib.Core.List.{List, [], _∷_, map}
 use lib.ListN.{length, set, take, drop}
+use Rattle.meaning.specs.declared.Format.{Format}
 use Rattle.meaning.specs.declared.Pen.{Pen}
 use Rattle.meaning.specs.Lists.{joinMap}
 use Rattle.meaning.specs.Codes.{tokens}
 use Rattle.meaning.specs.Rows.{isDouble, rows}
 use Rattle.meaning.specs.Cells.{Cell, newPen, cellsOfRow, penAfterRow, cellRows}
 use Rattle.meaning.specs.Document.{Piece, writePiece, looksOf}
-use Rattle.meaning.specs.Document.Piece.{span, br}
+use Rattle.meaning.specs.Document.Piece.{span}
 use Rattle.meaning.specs.Conversion.{rowSpans, rowPieces, pieces}
 use Rattle.output.specs.Output.{past, Wrote}
-use Rattle.styles.specs.declared.Marks.{Marks}
 use Rattle.charset.specs.Reading.{afterRowAt}
 use Rattle.rows.specs.FirstRow.{firstRow, isEnded, rowsOf}
 use Rattle.text.specs.declared.Tally.{Tally}
@@ -27,33 +27,33 @@ markedWith on [] = on
 markedWith on (l ∷ ls) = markedWith (set on l true) ls
 
 -- bytes laid from a tally on, with spans of the given looks among them: what is written, counted and marked
-pub record Laid (buf : List ℕ) (t : Tally) (bytes looks : List ℕ) (now : List ℕ) (r : Tally) : Type 0 where
-  pub wrote : Wrote buf (t .at) bytes now (r .at)
+pub record Laid (buf : List ℕ) (on : List Bool) (t : Tally) (bytes looks : List ℕ) (buf′ : List ℕ) (on′ : List Bool) (r : Tally) : Type 0 where
+  pub wrote : Wrote buf (t .at) bytes buf′ (r .at)
   pub spans : r .spans ≡ past (t .spans) (length looks)
-  pub marks : r .marks .on ≡ markedWith (t .marks .on) looks
+  pub marks : on′ ≡ markedWith on looks
 
 -- pieces laid from a tally on
-abbrev pub PiecesLaid : List ℕ → Tally → List Piece → List ℕ → Tally → Type 0
-PiecesLaid buf t ps now r = Laid buf t (joinMap writePiece ps) (looksOf ps) now r
+abbrev pub PiecesLaid : List ℕ → List Bool → Tally → List Piece → List ℕ → List Bool → Tally → Type 0
+PiecesLaid buf on t ps buf′ on′ r = Laid buf on t (joinMap writePiece ps) (looksOf ps) buf′ on′ r
 
 -- a row's cells, cut at 64: a text within rule 15 has no longer row
 unfoldable pub cut64 : List Cell → List Cell
 cut64 cs = take 64 cs
 
 -- one row of a text laid: its spans, whether a row end follows it, the position after that, and the pen after the row
-pub record RowDone (text : List ℕ) (start : ℕ) (pen : Pen) (buf : List ℕ) (t : Tally) (now : List ℕ) (r : RowLaid) : Type 0 where
-  pub laid : PiecesLaid buf t (map span (rowSpans (cut64 (cellsOfRow pen (firstRow (tokens (drop start text))))))) now (r .tally)
+pub record RowDone (text : List ℕ) (start : ℕ) (pen : Pen) (buf : List ℕ) (on : List Bool) (t : Tally) (buf′ : List ℕ) (on′ : List Bool) (r : RowLaid) : Type 0 where
+  pub laid : PiecesLaid buf on t (map span (rowSpans (cut64 (cellsOfRow pen (firstRow (tokens (drop start text))))))) buf′ on′ (r .tally)
   pub ended : r .ended ≡ isEnded (tokens (drop start text))
   pub next : r .next ≡ afterRowAt text start
   pub after : r .pen ≡ penAfterRow pen (firstRow (tokens (drop start text)))
 
 -- all rows of a text laid, with their number, counted up to 256
-pub record RowsDone (text : List ℕ) (pen : Pen) (paired : Bool) (buf : List ℕ) (t : Tally) (now : List ℕ) (r : RowsLaid) : Type 0 where
-  pub laid : PiecesLaid buf t (rowPieces (map cut64 (cellRows pen (rowsOf paired (tokens text))))) now (r .tally)
+pub record RowsDone (text : List ℕ) (pen : Pen) (paired : Bool) (buf : List ℕ) (on : List Bool) (t : Tally) (buf′ : List ℕ) (on′ : List Bool) (r : RowsLaid) : Type 0 where
+  pub laid : PiecesLaid buf on t (rowPieces (map cut64 (cellRows pen (rowsOf paired (tokens text))))) buf′ on′ (r .tally)
   pub rows : r .rows ≡ min (length (rowsOf paired (tokens text))) 256
 
--- what is laid for a text whose lines end before line `end`
-unfoldable pub contentOf : ℕ → ℕ → ℕ → List ℕ → List Piece
-contentOf mode end vp text =
+-- what is laid for a text
+unfoldable pub contentOf : Format → ℕ → List ℕ → List Piece
+contentOf f vp text =
     let ts = tokens text in
-    pieces end vp (isDouble ts) (map cut64 (cellRows (newPen (isDouble ts)) (rows mode ts)))
+    pieces (f .screen .end) vp (isDouble ts) (map cut64 (cellRows (newPen (isDouble ts)) (rows (f .mode) ts)))

@@ -3,7 +3,7 @@
 ghost use mathlib.Core.Path.{_≡_};
 ghost use Prim.Native.Nat.{_+_, min};
 ghost use mathlib.Core.List.{[], _∷_, map};
-ghost use lib.ListN.{length, take, drop, replicate};
+ghost use lib.ListN.{replicate};
 ghost use Rattle.meaning.specs.Lists.{joinMap};
 ghost use Rattle.meaning.specs.Document.{escaped, writePiece};
 ghost use Rattle.meaning.specs.Document.Piece.{span, br};
@@ -11,19 +11,17 @@ ghost use Rattle.meaning.specs.Conversion.{rowSpans, fillers};
 ghost use Rattle.cells.specs.Arrays.{cellsAt, cut};
 ghost use Rattle.output.specs.Output.{Wrote};
 ghost use Rattle.text.specs.Laid.{PiecesLaid, RowDone, RowsDone, contentOf};
+use meaning::Format;
 use meaning::Lines;
 use meaning::Pen;
 use meaning::Rows;
-use styles::Marks;
 
-// Where the next byte goes, the spans so far, and the looks in use.
+// Where the next byte goes, and the spans so far.
 pub struct Tally {
     pub at: usize,
     pub spans: usize,
-    pub marks: Marks,
 }
 
-// The characters from an index up to another.
 fn put_characters(out: &mut [u8], at: usize, characters: &[u16]) -> usize
     ensures { λ r. ⌜ Wrote (now (out .entry)) at (joinMap escaped (now (characters .entry))) (now (out .exit)) r ⌝ }
 {
@@ -36,19 +34,19 @@ fn put_characters(out: &mut [u8], at: usize, characters: &[u16]) -> usize
     p
 }
 
-fn put_span(out: &mut [u8], t: Tally, characters: &[u16], look: u16) -> Tally
-    ensures { λ r. ⌜ PiecesLaid (now (out .entry)) t (span (record { look = look; characters = now (characters .entry) }) ∷ []) (now (out .exit)) r ⌝ }
+// A span is the one place where something is counted and marked.
+fn put_span(out: &mut [u8], marks: &mut [bool], t: Tally, characters: &[u16], look: u16) -> Tally
+    ensures { λ r. ⌜ PiecesLaid (now (out .entry)) (now (marks .entry)) t (span (record { look = look; characters = now (characters .entry) }) ∷ []) (now (out .exit)) (now (marks .exit)) r ⌝ }
 {
     let p = output::put(out, t.at, b"<tt:span style=\"");
     let p = styles::put_style_name(out, p, look);
     let p = output::put(out, p, b"\">");
     let p = put_characters(out, p, characters);
     let p = output::put(out, p, b"</tt:span>");
-    let marks = t.marks;
+    styles::mark(marks, look);
     Tally {
         at: p,
         spans: output::after(t.spans, 1),
-        marks: marks.marked(look),
     }
 }
 
@@ -86,8 +84,15 @@ fn put_breaks(out: &mut [u8], at: usize, n: u64) -> usize
 }
 
 // The spans of what is shown of the first n cells of two arrays.
-fn put_row(out: &mut [u8], t: Tally, characters: &[u16], looks: &[u16], n: usize) -> Tally
-    ensures { λ r. ⌜ PiecesLaid (now (out .entry)) t (map span (rowSpans (cellsAt (now (characters .entry)) (now (looks .entry)) 0 (cut (now (characters .entry)) (now (looks .entry)) n)))) (now (out .exit)) r ⌝ }
+fn put_row(
+    out: &mut [u8],
+    marks: &mut [bool],
+    t: Tally,
+    characters: &[u16],
+    looks: &[u16],
+    n: usize,
+) -> Tally
+    ensures { λ r. ⌜ PiecesLaid (now (out .entry)) (now (marks .entry)) t (map span (rowSpans (cellsAt (now (characters .entry)) (now (looks .entry)) 0 (cut (now (characters .entry)) (now (looks .entry)) n)))) (now (out .exit)) (now (marks .exit)) r ⌝ }
 {
     let shown = cells::shown_range(characters, looks, n);
     let end = shown.end;
@@ -96,27 +101,34 @@ fn put_row(out: &mut [u8], t: Tally, characters: &[u16], looks: &[u16], n: usize
     while i < end {
         let s = cells::span_at(characters, looks, i, end);
         let e = s.end;
-        r = put_span(out, r, &characters[i..e], s.look);
+        r = put_span(out, marks, r, &characters[i..e], s.look);
         i = e;
     }
     r
 }
 
 // One row laid, whether a row end follows it, the position after that, and the pen after the row.
-pub struct RowLaid {
+pub(crate) struct RowLaid {
     pub tally: Tally,
     pub ended: bool,
     pub next: usize,
     pub pen: Pen,
 }
 
-fn lay_row(out: &mut [u8], t: Tally, text: &[u8], start: usize, before: Pen) -> RowLaid
-    ensures { λ r. ⌜ RowDone (now (text .entry)) start before (now (out .entry)) t (now (out .exit)) r ⌝ }
+fn lay_row(
+    out: &mut [u8],
+    marks: &mut [bool],
+    t: Tally,
+    text: &[u8],
+    start: usize,
+    before: Pen,
+) -> RowLaid
+    ensures { λ r. ⌜ RowDone (now (text .entry)) start before (now (out .entry)) (now (marks .entry)) t (now (out .exit)) (now (marks .exit)) r ⌝ }
 {
     let mut characters = [0u16; 64];
     let mut looks = [0u16; 64];
     let row = cells::decode_row(text, start, before, &mut characters, &mut looks);
-    let tally = put_row(out, t, &characters, &looks, row.cells);
+    let tally = put_row(out, marks, t, &characters, &looks, row.cells);
     let pen = row.pen;
     RowLaid {
         tally,
@@ -127,7 +139,7 @@ fn lay_row(out: &mut [u8], t: Tally, text: &[u8], start: usize, before: Pen) -> 
 }
 
 // All rows laid, and their number.
-pub struct RowsLaid {
+pub(crate) struct RowsLaid {
     pub tally: Tally,
     pub rows: u32,
 }
@@ -138,10 +150,17 @@ fn row_counted(n: u32) -> u32
     if n < 256 { n + 1 } else { 256 }
 }
 
-fn lay_rows(out: &mut [u8], t: Tally, text: &[u8], start: Pen, paired: bool) -> RowsLaid
-    ensures { λ r. ⌜ RowsDone (now (text .entry)) start paired (now (out .entry)) t (now (out .exit)) r ⌝ }
+fn lay_rows(
+    out: &mut [u8],
+    marks: &mut [bool],
+    t: Tally,
+    text: &[u8],
+    start: Pen,
+    paired: bool,
+) -> RowsLaid
+    ensures { λ r. ⌜ RowsDone (now (text .entry)) start paired (now (out .entry)) (now (marks .entry)) t (now (out .exit)) (now (marks .exit)) r ⌝ }
 {
-    let first = lay_row(out, t, text, 0, start);
+    let first = lay_row(out, marks, t, text, 0, start);
     let mut tally = first.tally;
     let mut pen = first.pen;
     let mut more = first.ended;
@@ -150,7 +169,7 @@ fn lay_rows(out: &mut [u8], t: Tally, text: &[u8], start: Pen, paired: bool) -> 
     while more {
         let at = rows::row_after(text, paired, next);
         tally.at = put_break(out, tally.at);
-        let row = lay_row(out, tally, text, at, pen);
+        let row = lay_row(out, marks, tally, text, at, pen);
         tally = row.tally;
         pen = row.pen;
         more = row.ended;
@@ -161,15 +180,23 @@ fn lay_rows(out: &mut [u8], t: Tally, text: &[u8], start: Pen, paired: bool) -> 
 }
 
 // A set's text as the content of its paragraph: its rows with a line break between them, then one for each filler line.
-// Its lines end before line `end`. A row is cut at 64 cells, which no text within rule 15 has more of.
-pub fn put_content(out: &mut [u8], t: Tally, text: &[u8], mode: u64, end: u8, vp: u8) -> Tally
-    ensures { λ r. ⌜ PiecesLaid (now (out .entry)) t (contentOf mode end vp (now (text .entry))) (now (out .exit)) r ⌝ }
+// A row is cut at 64 cells, which no text within rule 15 has more of.
+pub fn put_content(
+    out: &mut [u8],
+    marks: &mut [bool],
+    t: Tally,
+    text: &[u8],
+    f: Format,
+    vp: u8,
+) -> Tally
+    ensures { λ r. ⌜ PiecesLaid (now (out .entry)) (now (marks .entry)) t (contentOf f vp (now (text .entry))) (now (out .exit)) (now (marks .exit)) r ⌝ }
 {
+    let screen = f.screen;
     let double = rows::is_double(text);
-    let paired = (mode == 2) & double;
-    let laid = lay_rows(out, t, text, Pen::new(double), paired);
+    let paired = (f.mode == 2) & double;
+    let laid = lay_rows(out, marks, t, text, Pen::new(double), paired);
     let lines = Rows(laid.rows).lines(double);
     let mut tally = laid.tally;
-    tally.at = put_breaks(out, tally.at, filler_lines(end, vp, lines));
+    tally.at = put_breaks(out, tally.at, filler_lines(screen.end, vp, lines));
     tally
 }

@@ -4,7 +4,7 @@ use Prim.Native.Nat.{_-_}
 use native.Mathlib.Omega.{arith}
 use mathlib.Core.Path.{refl, sym, _∙_}
 use lib.ListN.{length}
-use Rattle.charset.proofs.Laws.{read-on, run-on}
+use Rattle.charset.proofs.Laws.{read-on, turn-on}
 use borrow.Author.Needs.{needs}
 use Rattle.cells.proofs.decode_row.Statement.{statement}
 use Rattle.cells.proofs.decode_row.Tie as tie
@@ -36,51 +36,45 @@ sub-put-run : tie.Need-sub-put-run Inv-loop μ-loop
 sub-put-run c =
     let p = c .before .before in
     let t = p .before .before .before .before .before .before .before .before .before .before .before in
-    let o = read-on (t .token-at .ensures) (t .before .loop-test .taken) in
-    let w = run-on (p .plain-end .ensures) (o .within) in
-    w .on
+    let w = turn-on (t .token-at .ensures) (t .before .loop-test .taken) (p .plain-end .ensures) in
+    w .run .on
 
 part-put-run-start : tie.Need-part-put-run-start Inv-loop μ-loop
 part-put-run-start c =
     let p = c .before .before in
     let t = p .before .before .before .before .before .before .before .before .before .before .before in
-    let o = read-on (t .token-at .ensures) (t .before .loop-test .taken) in
-    let w = run-on (p .plain-end .ensures) (o .within) in
+    let w = turn-on (t .token-at .ensures) (t .before .loop-test .taken) (p .plain-end .ensures) in
     search needs
 
 part-put-run-end : tie.Need-part-put-run-end Inv-loop μ-loop
 part-put-run-end c =
     let p = c .before .before in
     let t = p .before .before .before .before .before .before .before .before .before .before .before in
-    let o = read-on (t .token-at .ensures) (t .before .loop-test .taken) in
-    let w = run-on (p .plain-end .ensures) (o .within) in
+    let w = turn-on (t .token-at .ensures) (t .before .loop-test .taken) (p .plain-end .ensures) in
     search needs
 
 sub-n : tie.Need-sub-n Inv-loop μ-loop
 sub-n c =
     let p = c .before .before .before .before .before .before .before .before in
     let t = p .before .before .before .before .before .before .before .before .before .before .before in
-    let o = read-on (t .token-at .ensures) (t .before .loop-test .taken) in
-    let w = run-on (p .plain-end .ensures) (o .within) in
-    w .on
+    let w = turn-on (t .token-at .ensures) (t .before .loop-test .taken) (p .plain-end .ensures) in
+    w .run .on
 
 add-n : tie.Need-add-n Inv-loop μ-loop
 add-n c =
     let p = c .before .before .before .before .before .before .before .before in
     let t = p .before .before .before .before .before .before .before .before .before .before .before in
-    let o = read-on (t .token-at .ensures) (t .before .loop-test .taken) in
-    let w = run-on (p .plain-end .ensures) (o .within) in
+    let w = turn-on (t .token-at .ensures) (t .before .loop-test .taken) (p .plain-end .ensures) in
     let l = t .before .before in
     let k = p .before .before .before .before .before .before in
-    omega (arith, l .loop .inv .passed, o .on, w .on, w .within, l .before .before .before .before .before .good, k .put-cell .ensures .2, cells-one (t .token-at .result .token) (l .loop .pen))
+    omega (arith, l .loop .inv .passed, l .before .before .before .before .before .good, k .put-cell .ensures .2, cells-one (t .token-at .result .token) (l .loop .pen))
 
 loop-less : tie.Need-loop-less Inv-loop μ-loop
 loop-less c =
     let p = c .before .before .before .before .before .before .before .before in
     let t = p .before .before .before .before .before .before .before .before .before .before .before in
-    let o = read-on (t .token-at .ensures) (t .before .loop-test .taken) in
-    let w = run-on (p .plain-end .ensures) (o .within) in
-    omega (arith, o .on, w .on, w .within)
+    let w = turn-on (t .token-at .ensures) (t .before .loop-test .taken) (p .plain-end .ensures) in
+    omega arith
 
 loop-again : tie.Need-loop-again Inv-loop μ-loop
 loop-again c =
@@ -89,11 +83,11 @@ loop-again c =
     let k = p .before .before .before .before .before .before in
     let e = k .before .before .before in
     let t = e .before .before in
-    let o = read-on (t .token-at .ensures) (t .before .loop-test .taken) in
+    let w = turn-on (t .token-at .ensures) (t .before .loop-test .taken) (p .plain-end .ensures) in
     let s = k .put-cell .ensures in
     ahead-run
-    (ahead-more (t .before .before .loop .inv) o (sym (e .before .is-row-end .ensures) ∙ e .if1 .left) (p .before .pen-after .ensures) (s .0) (s .1) (s .2))
-    (run-on (p .plain-end .ensures) (o .within))
+    (ahead-more (t .before .before .loop .inv) (w .read) (sym (e .before .is-row-end .ensures) ∙ e .if1 .left) (p .before .pen-after .ensures) (s .0) (s .1) (s .2))
+    (w .run)
     (m .put-run .ensures .0)
     (m .put-run .ensures .1)
     refl

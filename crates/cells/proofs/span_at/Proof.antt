@@ -2,16 +2,15 @@
 -- Assumes nothing.
 use native.Mathlib.Omega.{arith}
 use borrow.Author.Needs.{needs}
-use Rattle.cells.proofs.Exact.{span-exact}
 use Rattle.cells.proofs.span_at.Statement.{statement}
 use Rattle.cells.proofs.span_at.Tie as tie
 use Rattle.cells.proofs.Spanning.{no-span}
 
 returns : tie.Need-returns
-returns c = span-exact _ _ _ _ (no-span _ _ _ _ (omega arith))
+returns c = no-span _ _ _ _ (omega arith)
 
 returns-2 : tie.Need-returns-2
-returns-2 c = rw (c .before .before .cut-to .ensures) at (span-exact _ _ _ _ (c .span-from .ensures))
+returns-2 c = rw (c .before .before .cut-to .ensures) at (c .span-from .ensures)
 
 pub span-at-spec : {M : Type 1} → statement M
 span-at-spec = tie.close (tie.spec (λ c κs. search needs) (λ c. search needs) returns (λ c κs. search needs) returns-2)

@@ -1,7 +1,6 @@
 -- `span_from` gives the first span of a range: it grows from the first cell for as long as cells join.
 -- Assumes nothing.
 use Prim.Native.Nat.{_-_, _≤_, _<_}
-use native.Mathlib.Omega.{arith}
 use mathlib.Core.Path.{sym, _∙_}
 use mathlib.Core.Logic.{⊎-elim}
 use borrow.Author.Tests.{not-true, not-false}
@@ -30,7 +29,7 @@ returns c =
     let t = c .before .before .before .before .before .before .before .before in
     let l = t .before .loop in
     let j = sym (c .before .before .is-joining .ensures) ∙ not-true _ (c .before .if2 .taken) in
-    to-stop _ _ _ _ (l .inv .0) (l .inv .2) (t .loop-test .taken) j (c .span-look .ensures)
+    to-stop _ _ _ _ (l .inv .0) (l .inv .2) (c .span-look .ensures) (t .loop-test .taken) j
 
 loop-again : tie.Need-loop-again Inv-loop μ-loop
 unfolding packedCell
@@ -53,7 +52,7 @@ returns-2 : tie.Need-returns-2 Inv-loop μ-loop
 unfolding packedCell
 returns-2 c =
     let l = c .before .before .loop in
-    to-end _ _ _ _ (l .inv .0) (l .inv .2) (omega arith) (c .span-look2 .ensures)
+    to-end _ _ _ _ (l .inv .0) (l .inv .2) (c .span-look2 .ensures) (c .before .loop-test .left)
 
 pub span-from-spec : {M : Type 1} → statement M
 span-from-spec =

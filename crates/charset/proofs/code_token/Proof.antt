@@ -1,7 +1,6 @@
 -- `code_token` gives the token of a code by itself: from A0h on by the Latin table.
 -- Assumes nothing.
 use borrow.Author.Needs.{needs}
-use mathlib.Core.Path.{sym}
 use Rattle.charset.proofs.Codes.{upper-token}
 use Rattle.charset.proofs.code_token.Statement.{statement}
 use Rattle.charset.proofs.code_token.Tie as tie

@@ -3,7 +3,7 @@
 -- Assumes nothing.
 use native.Mathlib.Omega.{arith}
 use borrow.Author.Needs.{needs}
-use mathlib.Core.Path.{refl, sym, _∙_}
+use mathlib.Core.Path.{sym, _∙_}
 use Rattle.meaning.specs.Codes.{codeToken, isControl, characterOf}
 use Rattle.meaning.specs.Characters.{latin}
 use Rattle.meaning.specs.Tables.{latinTable}

@@ -1,7 +1,7 @@
 -- `convert` keeps all three demands: the answer, the buffer, and the fewest spans.
 -- Assumes nothing.
-use borrow.Author.Needs.{needs}
 use native.Mathlib.Omega.{arith}
+use borrow.Author.Needs.{needs}
 use Prim.Native.Nat.{ℕ}
 use mathlib.Core.Path.{_∙_}
 use lib.ListN.{length-replicate}
@@ -17,8 +17,10 @@ returns c =
 write-requires : tie.Need-write-requires
 write-requires c κs =
     let e = c .before .before .before .before .before .before .before in
-    let b = e .before .before .before in
-    (e .examine .kept .1 .1 .1 .0 ∙ length-replicate {A = ℕ} 26992 0, blocks-bound _ _ (b .before .args .out .now) (e .examine .ensures .0) (λ i. omega (arith, b .shared-slice-known .given i)) (c .before .before .before .if1 .left))
+    let b = e .before .before .before in (
+      e .examine .kept .1 .1 .1 .0 ∙ length-replicate {A = ℕ} 26992 0,
+      blocks-bound _ _ (b .before .args .out .now) (e .examine .ensures .0) (λ i. omega (arith, b .shared-slice-known .given i)) (c .before .before .before .if1 .left),
+    )
 
 returns-2 : tie.Need-returns-2
 returns-2 c =

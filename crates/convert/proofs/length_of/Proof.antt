@@ -1,4 +1,4 @@
--- `length_of` measures the head and the tail as they are written, and adds the paragraphs between them.
+-- `length_of` measures the head, adds the paragraphs, and measures the tail.
 -- Assumes nothing.
 use borrow.Author.Needs.{needs}
 use Rattle.convert.specs.Telling.{measured}
@@ -8,10 +8,9 @@ use Rattle.convert.proofs.length_of.Tie as tie
 returns : tie.Need-returns
 unfolding measured
 returns c =
-    let sum = rw (c .before .before .before .before .before .put-head .ensures .next) at (c .before .before .after .ensures) in
-    rw sum at (c .before .put-tail .ensures .next)
+    let t = c .before in
+    rw (t .put-tail .ensures .next, t .before .after .ensures, t .before .before .before .before .put-head .ensures .next)
 
 pub length-of-spec : {M : Type 1} → statement M
 length-of-spec =
-    tie.close (tie.spec (λ c. search needs) (λ c κs. search needs) (λ c. search needs) (λ c κs. search needs) (λ c κs. search needs)
-    returns)
+    tie.close (tie.spec (λ c. search needs) (λ c κs. search needs) (λ c. search needs) (λ c κs. search needs) (λ c κs. search needs) returns)

@@ -1,35 +1,20 @@
 -- `put_paragraph` lays a set as a paragraph: eleven writes.
 -- Assumes nothing.
-use mathlib.Core.Path.{_∙_}
 use borrow.Author.Needs.{needs}
 use Rattle.document.specs.Parts.{paragraphFor}
 use Rattle.meaning.specs.Document.{writeParagraph}
 use Rattle.meaning.specs.Lists.{joined, bytes}
 use Rattle.output.proofs.Laws.{_⨟_}
+use Rattle.text.proofs.Laws.{laid-lengths}
 use Rattle.document.proofs.put_paragraph.Statement.{statement}
 use Rattle.document.proofs.put_paragraph.Tie as tie
-
-same-length : tie.Need-same-length
-same-length c =
-    let c11 = c .before .before in
-    let c10 = c11 .before .before .before .before .before in
-    let c9 = c10 .before .before .before .before in
-    let c8 = c9 .before .before .before .before .before in
-    let c7 = c8 .before .before .before .before in
-    let c6 = c7 .before .before .before .before .before in
-    let c5 = c6 .before .before .before .before in
-    let c4 = c5 .before .before .before .before .before in
-    let c3 = c4 .before .before .before .before in
-    let c2 = c3 .before .before .before .before .before in
-    let c1 = c2 .before .before .before .before in
-    c11 .put6 .kept .0 ∙ c10 .put-content .kept .0 ∙ c9 .put5 .kept .0 ∙ c8 .put-time2 .kept .0 ∙ c7 .put4 .kept .0 ∙ c6 .put-time .kept .0 ∙ c5 .put3 .kept .0 ∙ c4 .put-alignment .kept .0 ∙ c3 .put2 .kept .0 ∙ c2 .put-decimal .kept .0 ∙ c1 .put .kept .0
 
 returns : tie.Need-returns
 unfolding paragraphFor writeParagraph joined bytes
 returns c =
     let c11 = c .before .before in
-    let c10 = c11 .before .before .before .before .before in
-    let c9 = c10 .before .before .before .before in
+    let c10 = c11 .before .before .before .before .before .before .before in
+    let c9 = c10 .before .before .before .before .before in
     let c8 = c9 .before .before .before .before .before in
     let c7 = c8 .before .before .before .before in
     let c6 = c7 .before .before .before .before .before in
@@ -51,4 +36,4 @@ put-paragraph-spec =
     tie.close (tie.spec (λ c. search needs) (λ c κs. search needs) (λ c κs. search needs) (λ c. search needs) (λ c κs. search needs)
     (λ c κs. search needs) (λ c. search needs) (λ c κs. search needs) (λ c κs. search needs) (λ c. search needs) (λ c κs. search needs)
     (λ c κs. search needs) (λ c. search needs) (λ c κs. search needs) (λ c κs. search needs) (λ c. search needs) (λ c κs. search needs)
-    same-length returns)
+    (λ c. laid-lengths (returns c) .0) (λ c. laid-lengths (returns c) .1) returns)

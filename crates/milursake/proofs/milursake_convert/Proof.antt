@@ -2,9 +2,9 @@
 -- Assumes nothing.
 use mathlib.Core.Path.{_∙_, ap}
 use borrow.Author.Needs.{needs}
-use Rattle.convert.specs.Telling.{numbersOf}
+use Rattle.milursake.specs.Numbers.{numbersOf}
 use Rattle.output.specs.Output.{stored}
-use Rattle.convert.proofs.Converting.{fewest-told}
+use Rattle.milursake.proofs.Laws.{fewest-told}
 use Rattle.milursake.proofs.milursake_convert.Statement.{statement}
 use Rattle.milursake.proofs.milursake_convert.Tie as tie
 

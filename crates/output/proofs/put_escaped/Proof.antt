@@ -3,9 +3,9 @@
 use Prim.Native.Nat.{ℕ, _<_}
 use native.Mathlib.Omega.{arith}
 use mathlib.Core.Path.{_≡_}
-use mathlib.Core.Bool.{true, _&&_, _||_}
+use mathlib.Core.Bool.{Bool, true, false, _&&_, _||_}
 use mathlib.Core.List.{[], _∷_}
-use mathlib.Core.Logic.{_⊎_, inl, inr}
+use mathlib.Core.Logic.{inl, inr, ⊎-elim}
 use lib.Dec.{leb, ltb, eqb}
 use borrow.Author.Tests.{lt-ltb, ltb-true, leb-true, eqb-true, ne-eqb}
 use Rattle.meaning.specs.Document.{utf8, escaped}
@@ -15,36 +15,31 @@ use borrow.Author.Needs.{needs}
 use Rattle.output.proofs.put_escaped.Statement.{statement}
 use Rattle.output.proofs.put_escaped.Tie as tie
 
--- a blank or a letter, and what it is not
-record Common (p : ℕ) : Type 0 where
-  low : p < 127
-  and : p ≡ 38 → ⊥
-  less : p ≡ 60 → ⊥
-  greater : p ≡ 62 → ⊥
+abbrev isCommon : ℕ → Bool
+isCommon p = eqb p 32 || (leb 63 p && ltb p 127)
 
-common : (p : ℕ) → (eqb p 32 || (leb 63 p && ltb p 127)) ≡ true → Common p
-common p e = by-side (or-parts (eqb p 32) (leb 63 p && ltb p 127) e)
-  where
-    by-side : eqb p 32 ≡ true ⊎ ((leb 63 p && ltb p 127) ≡ true) → Common p
-    by-side (inl b) =
-        let h : p ≡ 32 = eqb-true p 32 b in
-        record { low = omega arith; and = λ d. omega arith; less = λ d. omega arith; greater = λ d. omega arith }
-    by-side (inr b) =
-        let w = and-parts (leb 63 p) (ltb p 127) b in
-        let l = leb-true 63 p (w .0) in
-        record { low = ltb-true p 127 (w .1); and = λ d. omega arith; less = λ d. omega arith; greater = λ d. omega arith }
+-- a blank or a letter is below 127, and no code between the blank and the letters
+common : (p : ℕ) → isCommon p ≡ true → (p < 127) × ((n : ℕ) → 32 < n → n < 63 → eqb p n ≡ false)
+common p e =
+    ⊎-elim
+    (λ b. let h = eqb-true p 32 b in (omega arith, λ n i j. ne-eqb p n (λ d. omega arith)))
+    (λ b.
+    let w = and-parts (leb 63 p) (ltb p 127) b in
+    let h = leb-true 63 p (w .0) in
+    (ltb-true p 127 (w .1), λ n i j. ne-eqb p n (λ d. omega arith)))
+    (or-parts (eqb p 32) (leb 63 p && ltb p 127) e)
 
-common-escaped : (p : ℕ) → Common p → escaped p ≡ p ∷ []
+common-escaped : (p : ℕ) → isCommon p ≡ true → escaped p ≡ p ∷ []
 unfolding escaped utf8
-common-escaped p k = rw (ne-eqb p 38 (k .and), ne-eqb p 60 (k .less), ne-eqb p 62 (k .greater), lt-ltb p 128 (omega (arith, k .low)))
+common-escaped p e =
+    let k = common p e in
+    rw (k .1 38 (omega arith) (omega arith), k .1 60 (omega arith) (omega arith), k .1 62 (omega arith) (omega arith), lt-ltb p 128 (omega (arith, k .0)))
 
 cast-put-byte : tie.Need-cast-put-byte
-cast-put-byte c = record { fits = omega (arith, common (c .before .before .before .args .c) (c .before .if1 .taken) .low) }
+cast-put-byte c = record { fits = omega (arith, common (c .before .before .before .args .c) (c .before .if1 .taken) .0) }
 
 returns : tie.Need-returns
-returns c =
-    let t = c .before .before .before .before in
-    wrote-as (common-escaped (t .before .before .args .c) (common _ (t .if1 .taken))) (c .before .before .put-byte .ensures)
+returns c = wrote-as (common-escaped _ (c .before .before .before .before .if1 .taken)) (c .before .before .put-byte .ensures)
 
 returns-3 : tie.Need-returns-3
 unfolding escaped

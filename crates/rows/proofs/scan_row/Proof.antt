@@ -4,8 +4,9 @@ use Prim.Native.Nat.{_-_}
 use native.Mathlib.Omega.{arith}
 use mathlib.Core.Path.{sym, _∙_}
 use lib.ListN.{length}
+use borrow.Author.Needs.{needs}
 use Rattle.charset.specs.Plain.{plainEnd}
-use Rattle.charset.proofs.Laws.{read-on}
+use Rattle.charset.proofs.Laws.{read-on, turn-on}
 use Rattle.rows.proofs.RowLoop.{RowLeft, left-start, left-more, left-run, left-end, left-over}
 use Rattle.rows.proofs.scan_row.Statement.{statement}
 use Rattle.rows.proofs.scan_row.Tie as tie
@@ -16,54 +17,34 @@ Inv-loop text start facts₀ i₀ facts i = RowLeft text start facts i
 abbrev μ-loop : tie.MeasureT-loop
 μ-loop text start facts₀ i₀ facts i = length text - i
 
-none-requires : tie.Need-none-requires Inv-loop μ-loop
-none-requires c κs = tt
-
 loop-holds : tie.Need-loop-holds Inv-loop μ-loop
 loop-holds c = left-start _ _ (c .none .ensures)
 
-token-at-requires : tie.Need-token-at-requires Inv-loop μ-loop
-token-at-requires c κs = tt
-
-is-row-end-requires : tie.Need-is-row-end-requires Inv-loop μ-loop
-is-row-end-requires c κs = tt
-
 returns : tie.Need-returns Inv-loop μ-loop
 returns c = left-end (c .before .before .before .before .loop .inv) (read-on (c .before .before .token-at .ensures) (c .before .before .before .loop-test .taken)) (sym (c .before .is-row-end .ensures) ∙ c .if1 .taken)
-
-plain-end-requires : tie.Need-plain-end-requires Inv-loop μ-loop
-plain-end-requires c κs = tt
-
-with-token-requires : tie.Need-with-token-requires Inv-loop μ-loop
-with-token-requires c κs = tt
 
 sub-with-characters : tie.Need-sub-with-characters Inv-loop μ-loop
 unfolding plainEnd
 sub-with-characters c = omega (arith, c .before .plain-end .ensures)
 
-with-characters-requires : tie.Need-with-characters-requires Inv-loop μ-loop
-with-characters-requires c κs = tt
-
 loop-less : tie.Need-loop-less Inv-loop μ-loop
-unfolding plainEnd
 loop-less c =
     let t = c .before .before .before .before .before in
-    let o = read-on (t .token-at .ensures) (t .before .loop-test .taken) in
-    omega (arith, o .on, c .before .before .plain-end .ensures, t .before .loop-test .taken)
+    omega (arith, turn-on (t .token-at .ensures) (t .before .loop-test .taken) (c .before .before .plain-end .ensures))
 
 loop-again : tie.Need-loop-again Inv-loop μ-loop
 loop-again c =
     let p = c .before .before in
     let e = p .before in
     let t = e .before .before in
-    let o = read-on (t .token-at .ensures) (t .before .loop-test .taken) in
-    let m = left-more (t .before .before .loop .inv) o (sym (e .before .is-row-end .ensures) ∙ e .if1 .left) (c .before .with-token .ensures) in
-    left-run m (p .plain-end .ensures) (c .with-characters .ensures)
+    let w = turn-on (t .token-at .ensures) (t .before .loop-test .taken) (p .plain-end .ensures) in
+    let m = left-more (t .before .before .loop .inv) (w .read) (sym (e .before .is-row-end .ensures) ∙ e .if1 .left) (c .before .with-token .ensures) in
+    left-run m (w .run) (c .with-characters .ensures)
 
 returns-2 : tie.Need-returns-2 Inv-loop μ-loop
 returns-2 c = left-over (c .before .loop .inv) (c .loop-test .left)
 
 pub scan-row-spec : {M : Type 1} → statement M
 scan-row-spec =
-    tie.close (tie.spec Inv-loop μ-loop none-requires loop-holds token-at-requires is-row-end-requires returns plain-end-requires
-    with-token-requires sub-with-characters with-characters-requires loop-less loop-again returns-2)
+    tie.close (tie.spec Inv-loop μ-loop (λ c κs. search needs) loop-holds (λ c κs. search needs) (λ c κs. search needs) returns
+    (λ c κs. search needs) (λ c κs. search needs) sub-with-characters (λ c κs. search needs) loop-less loop-again returns-2)

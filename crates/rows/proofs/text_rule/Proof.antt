@@ -1,14 +1,16 @@
 -- `text_rule` gives the first of the rules 13 to 15 that a text breaks.
 -- Assumes nothing.
 use native.Mathlib.Omega.{arith}
-use mathlib.Core.Path.{_∙_}
 use borrow.Author.Needs.{needs}
 use Rattle.rows.proofs.Facts.{rule-scanned}
 use Rattle.rows.proofs.text_rule.Statement.{statement}
 use Rattle.rows.proofs.text_rule.Tie as tie
 
 returns : tie.Need-returns
-returns c = c .rule-of .ensures ∙ rule-scanned _ _ _ (omega arith) (c .before .before .before .before .before .scan-row .ensures) (c .before .before .before .scan-after .ensures)
+returns c =
+    let d = c .before .before in
+    let e = d .before .before .before in
+    rw (c .rule-of .ensures) (rule-scanned _ _ _ (omega (arith, e .before .before .good)) (e .scan-row .ensures) (d .scan-after .ensures))
 
 pub text-rule-spec : {M : Type 1} → statement M
 text-rule-spec = tie.close (tie.spec (λ c κs. search needs) (λ c κs. search needs) (λ c κs. search needs) returns)

@@ -1,24 +1,40 @@
 -- `advance` reads the header, and the text where it is needed.
 -- Assumes nothing.
 use borrow.Author.Needs.{needs}
-use Rattle.sets.proofs.Total.{user-passed, on-open, on-shut}
+use Rattle.sets.specs.Assembling.{eventOf}
+use Rattle.sets.proofs.Laws.{on-user, on-full, on-first, on-next}
 use Rattle.sets.proofs.advance.Statement.{statement}
 use Rattle.sets.proofs.advance.Tie as tie
 
 returns : tie.Need-returns
-returns c = user-passed _ _ _ _ _ (c .before .before .before .header-of .ensures) (c .before .if1 .taken) (c .count-user .ensures)
+unfolding eventOf
+returns c = on-user _ _ _ _ _ (c .before .before .header-of .ensures) (c .before .is-user .ensures) (c .if1 .taken)
 
 returns-2 : tie.Need-returns-2
+unfolding eventOf
 returns-2 c =
-    let q = c .before .before .before .before .before .before .before .before in
-    on-open _ _ _ _ _ (q .before .before .header-of .ensures) (q .if1 .left) (c .before .before .before .before .before .before .before .text-of .ensures) (c .before .before .before .before .before .text-end .ensures) (c .before .before .before .before .put .ensures) (c .before .if2 .taken) (c .continuing .ensures)
+    let t = c .before .before in
+    let b = t .before .before in
+    on-full _ _ _ _ _ (b .before .before .header-of .ensures) (b .before .is-user .ensures) (b .if1 .left) (t .before .text-of .ensures) (t .text-end .ensures) (c .before .has-room .ensures) (c .if2 .taken)
 
 returns-3 : tie.Need-returns-3
 returns-3 c =
-    let q = c .before .before .before .before .before .before .before .before in
-    on-shut _ _ _ _ _ (q .before .before .header-of .ensures) (q .if1 .left) (c .before .before .before .before .before .before .before .text-of .ensures) (c .before .before .before .before .before .text-end .ensures) (c .before .before .before .before .put .ensures) (c .before .if2 .left) (c .opening .ensures)
+    let p = c .before .before .before .before .before in
+    let r = p .before .before in
+    let t = r .before .before in
+    let b = t .before .before in
+    on-first _ _ _ _ _ (b .before .before .header-of .ensures) (b .before .is-user .ensures) (b .if1 .left) (t .before .text-of .ensures) (t .text-end .ensures) (r .before .has-room .ensures) (r .if2 .left) (p .put .ensures) (c .before .enum-told .given .1) _ (c .opening .ensures)
+
+returns-4 : tie.Need-returns-4
+returns-4 c =
+    let p = c .before .before .before .before .before .before in
+    let r = p .before .before in
+    let t = r .before .before in
+    let b = t .before .before in
+    on-next _ _ _ _ _ (b .before .before .header-of .ensures) (b .before .is-user .ensures) (b .if1 .left) (t .before .text-of .ensures) (t .text-end .ensures) (r .before .has-room .ensures) (r .if2 .left) (p .put .ensures) (c .before .before .current .given .1) _ (c .continuing .ensures)
 
 pub advance-spec : {M : Type 1} → statement M
 advance-spec =
-    tie.close (tie.spec (λ c κs. search needs) (λ c κs. search needs) returns (λ c κs. search needs) (λ c κs. search needs)
-    (λ c κs. search needs) (λ c κs. search needs) (λ c. search needs) returns-2 (λ c κs. search needs) (λ c. search needs) returns-3)
+    tie.close (tie.spec (λ c κs. search needs) (λ c κs. search needs) returns (λ c κs. search needs) (λ c κs. search needs) (λ c κs. search needs) returns-2
+    (λ c κs. search needs) (λ c. search needs) (λ c κs. search needs) (λ c. search needs) (λ c κs. search needs) (λ c. search needs)
+    returns-3 (λ c. search needs) returns-4)

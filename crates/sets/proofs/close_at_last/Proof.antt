@@ -1,17 +1,18 @@
--- `close_at_last` closes the set at EBN FFh.
+-- `close_at_last` closes a set at EBN FFh.
 -- Assumes nothing.
 use borrow.Author.Tests.{eq-eqb, ne-eqb}
-use Rattle.sets.specs.Stepping.{closeStep}
+use Rattle.meaning.specs.Sets.{closeAtLast}
+use Rattle.sets.specs.Assembling.{setOf, currentOf, assemblyOf, eventOf}
 use Rattle.sets.proofs.close_at_last.Statement.{statement}
 use Rattle.sets.proofs.close_at_last.Tie as tie
 
 returns : tie.Need-returns
-unfolding closeStep
-returns c = rw (eq-eqb _ 255 (c .if1 .taken), closeStep)
+unfolding closeAtLast setOf currentOf assemblyOf eventOf
+returns c text = rw (eq-eqb _ 255 (c .if1 .taken), closeAtLast)
 
 returns-2 : tie.Need-returns-2
-unfolding closeStep
-returns-2 c = rw (ne-eqb _ 255 (c .if1 .left), closeStep)
+unfolding closeAtLast setOf currentOf assemblyOf eventOf
+returns-2 c text = rw (ne-eqb _ 255 (c .if1 .left), closeAtLast)
 
 pub close-at-last-spec : {M : Type 1} → statement M
 close-at-last-spec = tie.close (tie.spec returns returns-2)

@@ -1,16 +1,32 @@
--- `continuing` adds a block to the open set.
+-- `continuing` tests rule 7, and adds a block to the open set.
 -- Assumes nothing.
+use mathlib.Core.Path.{sym, ap, _∙_}
+use mathlib.Core.Option.{some}
 use borrow.Author.Needs.{needs}
-use Rattle.sets.proofs.Total.{further-wrong, further-good}
+use Rattle.meaning.specs.Refusals.{noRefusal}
+use Rattle.sets.specs.Assembling.{setOf, eventOf}
+use Rattle.sets.proofs.Laws.{continuing-broken, continuing-good}
 use Rattle.sets.proofs.continuing.Statement.{statement}
 use Rattle.sets.proofs.continuing.Tie as tie
 
 returns : tie.Need-returns
-returns c = further-wrong _ _ _ (c .before .belongs .ensures) (c .if1 .taken)
+unfolding eventOf noRefusal
+returns c text old part e =
+    let d = c .before .before in
+    let g = d .before .before in
+    ap some (sym (continuing-broken _ _ _ _ _ (g .before .goes-on .ensures) (g .or .ensures) (d .before .agrees .ensures) (d .or2 .ensures) (c .if1 .taken)))
 
 returns-2 : tie.Need-returns-2
-returns-2 c = let q = c .before .before .before in further-good _ _ _ (q .before .belongs .ensures) (q .if1 .left) (c .before .before .count-continuation .ensures) (c .before .ebn-after .ensures) (c .close-at-last .ensures)
+unfolding setOf noRefusal
+returns-2 c text old part e =
+    let d = c .before .before .before in
+    let g = d .before .before in
+    c .close-at-last .ensures text
+    ∙ ap some
+    (rw e
+    (sym (continuing-good _ _ _ _ _ (g .before .goes-on .ensures) (g .or .ensures) (d .before .agrees .ensures) (d .or2 .ensures) (c .before .if1 .left))))
 
 pub continuing-spec : {M : Type 1} → statement M
 continuing-spec =
-    tie.close (tie.spec (λ c κs. search needs) returns (λ c κs. search needs) (λ c κs. search needs) (λ c κs. search needs) returns-2)
+    tie.close (tie.spec (λ c κs. search needs) (λ c κs. search needs) (λ c κs. search needs) (λ c κs. search needs) returns
+    (λ c κs. search needs) returns-2)

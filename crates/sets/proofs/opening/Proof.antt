@@ -1,20 +1,32 @@
 -- `opening` tests EBN, then the rules 8 to 12, and opens a set.
 -- Assumes nothing.
+use native.Mathlib.Numerals.{add-one}
+use mathlib.Core.Path.{sym, ap, _∙_}
+use mathlib.Core.Option.{some}
 use borrow.Author.Needs.{needs}
-use Rattle.sets.proofs.Total.{open-wrong, open-broken, open-good}
+use borrow.Author.Tests.{not-true, not-false}
+use Rattle.sets.specs.Assembling.{setOf, eventOf}
+use Rattle.sets.proofs.Laws.{opening-wrong, opening-broken, opening-good}
 use Rattle.sets.proofs.opening.Statement.{statement}
 use Rattle.sets.proofs.opening.Tie as tie
 
 returns : tie.Need-returns
-returns c = open-wrong _ _ _ _ _ (c .if1 .taken)
+unfolding eventOf
+returns c text = ap some (sym (opening-wrong _ _ _ _ _ (not-true _ (c .if1 .taken))))
 
 returns-2 : tie.Need-returns-2
-returns-2 c = open-broken _ _ _ _ _ (c .before .before .if1 .left) (c .before .first-block-rule .ensures) (c .if2 .taken)
+unfolding eventOf
+returns-2 c text =
+    let d = c .before .before in
+    ap some (sym (opening-broken _ _ _ _ _ (not-false _ (d .before .if1 .left)) (d .first-block-rule .ensures) (c .if2 .taken)))
 
 returns-3 : tie.Need-returns-3
-returns-3 c = let q = c .before .before .before in open-good _ _ _ _ _ (q .before .before .if1 .left) (q .before .first-block-rule .ensures) (q .if2 .left) (c .before .before .count-first .ensures) (c .close-at-last .ensures)
+unfolding setOf
+returns-3 c text =
+    let d = c .before .before .before .before in
+    c .close-at-last .ensures text
+    ∙ ap some (rw add-one (sym (opening-good _ _ _ _ _ (not-false _ (d .before .if1 .left)) (d .first-block-rule .ensures) (c .before .before .if2 .left))))
 
 pub opening-spec : {M : Type 1} → statement M
 opening-spec =
-    tie.close (tie.spec returns (λ c κs. search needs) returns-2 (λ c κs. search needs) (λ c. search needs) (λ c. search needs)
-    (λ c κs. search needs) returns-3)
+    tie.close (tie.spec returns (λ c κs. search needs) returns-2 (λ c. search needs) (λ c. search needs) (λ c κs. search needs) returns-3)

@@ -8,9 +8,12 @@ use Rattle.text.proofs.lay_row.Statement.{statement}
 use Rattle.text.proofs.lay_row.Tie as tie
 
 returns : tie.Need-returns
-returns c = row-done (c .before .before .before .before .before .before .before .before .before .decode-row .ensures) (length-replicate {A = ℕ} 64 0) (length-replicate {A = ℕ} 64 0) (c .before .before .before .put-row .ensures)
+returns c =
+    let p = c .before .before .before .before .before in
+    let d = p .before .before .before .before .before .before .before in
+    row-done (d .decode-row .ensures) (length-replicate {A = ℕ} 64 0) (length-replicate {A = ℕ} 64 0) (p .put-row .ensures)
 
 pub lay-row-spec : {M : Type 1} → statement M
 lay-row-spec =
     tie.close (tie.spec (λ c. search needs) (λ c. search needs) (λ c κs. search needs) (λ c. search needs) (λ c. search needs)
-    (λ c κs. search needs) (λ c. search needs) returns)
+    (λ c κs. search needs) (λ c. search needs) (λ c. search needs) returns)

@@ -3,47 +3,30 @@
 use Prim.Native.Nat.{suc, _-_}
 use native.Mathlib.Omega.{arith}
 use mathlib.Core.Bool.{cond}
-use mathlib.Core.Path.{refl, _∙_}
 use lib.ListN.{length}
 use Rattle.rows.proofs.TextLoop.{less-left}
 use Rattle.rows.proofs.RowEnds.{on-after, start-on}
-use Rattle.text.proofs.Laws.{laid-length}
+use Rattle.text.proofs.Laws.{laid-lengths}
 use Rattle.text.proofs.RowsLaying.{RowsLeft, rows-all, rows-less, rows-none}
 use Rattle.text.proofs.lay_rows.Statement.{statement}
 use Rattle.text.proofs.lay_rows.Tie as tie
 
 abbrev Inv-loop : tie.InvT-loop
-Inv-loop out₀ text paired tally₀ pen₀ more₀ next₀ rows₀ out tally pen more next rows = RowsLeft text paired out₀ tally₀ pen₀ out tally pen more next rows
+Inv-loop out₀ marks₀ text paired tally₀ pen₀ more₀ next₀ rows₀ out marks tally pen more next rows = RowsLeft text paired out₀ marks₀ tally₀ pen₀ out marks tally pen more next rows
 
 abbrev μ-loop : tie.MeasureT-loop
-μ-loop out₀ text paired tally₀ pen₀ more₀ next₀ rows₀ out tally pen more next rows = cond more (suc (length text - next)) 0
-
-lay-row-requires : tie.Need-lay-row-requires Inv-loop μ-loop
-lay-row-requires c κs = tt
+μ-loop out₀ marks₀ text paired tally₀ pen₀ more₀ next₀ rows₀ out marks tally pen more next rows = cond more (suc (length text - next)) 0
 
 loop-holds : tie.Need-loop-holds Inv-loop μ-loop
-loop-holds c = rows-all _ _ (c .before .before .before .before .lay-row .ensures)
-
-row-after-requires : tie.Need-row-after-requires Inv-loop μ-loop
-row-after-requires c κs = tt
-
-put-break-requires : tie.Need-put-break-requires Inv-loop μ-loop
-put-break-requires c κs = tt
-
-lay-row-requires-2 : tie.Need-lay-row-requires-2 Inv-loop μ-loop
-lay-row-requires-2 c κs = tt
-
-row-counted-requires : tie.Need-row-counted-requires Inv-loop μ-loop
-row-counted-requires c κs = tt
+loop-holds c = rows-all _ _ (c .before .before .before .before .before .before .lay-row .ensures)
 
 loop-less : tie.Need-loop-less Inv-loop μ-loop
 loop-less c =
-    let r = c .before .before .before .before .before in
-    let b = r .before .before .before .before in
-    let a = b .before .before in
+    let r = c .before .before .before .before .before .before .before in
+    let a = r .before .before .before .before .before .before .before in
     let l = a .before .before in
     let d = r .lay-row2 .ensures in
-    let g = l .before .before .before .before .before .before .before .before .before .args in
+    let g = l .before .before .before .before .before .before .before .before .before .before .before .before .before .args in
     let n = on-after (g .text .now) _ (d .next) (d .ended) in
     rw (a .before .loop-test .taken)
     (less-left (r .lay-row2 .result .ended) (l .loop .next) (r .lay-row2 .result .next) _
@@ -51,19 +34,16 @@ loop-less c =
 
 loop-again : tie.Need-loop-again Inv-loop μ-loop
 loop-again c =
-    let r = c .before .before .before .before .before in
-    let b = r .before .before .before .before in
+    let r = c .before .before .before .before .before .before .before in
+    let b = r .before .before .before .before .before in
     let a = b .before .before in
-    let l = a .before .before in
-    rows-less _ _ (l .loop .inv) (a .before .loop-test .taken) (a .row-after .ensures) (b .put-break .ensures) (r .lay-row2 .ensures) (c .row-counted .ensures)
-
-same-length : tie.Need-same-length Inv-loop μ-loop
-same-length c = c .before .loop .inv .left .wrote .same ∙ laid-length (c .before .before .before .before .before .before .lay-row .ensures .laid)
+    rows-less _ _ (a .before .before .loop .inv) (a .before .loop-test .taken) (a .row-after .ensures) (b .put-break .ensures) (r .lay-row2 .ensures)
+    (c .row-counted .ensures)
 
 returns : tie.Need-returns Inv-loop μ-loop
-returns c = rows-none _ _ (c .before .loop .inv) (c .loop-test .left) (c .before .before .before .before .before .before .lay-row .ensures) refl refl
+returns c = rows-none _ _ (c .before .before .before .before .before .before .before .before .lay-row .ensures) (c .before .loop .inv) (c .loop-test .left)
 
 pub lay-rows-spec : {M : Type 1} → statement M
 lay-rows-spec =
-    tie.close (tie.spec Inv-loop μ-loop lay-row-requires loop-holds row-after-requires put-break-requires lay-row-requires-2
-    row-counted-requires loop-less loop-again same-length returns)
+    tie.close (tie.spec Inv-loop μ-loop (λ c κs. tt) loop-holds (λ c κs. tt) (λ c κs. tt) (λ c κs. tt) (λ c κs. tt) loop-less
+    loop-again (λ c. laid-lengths (returns c .laid) .0) (λ c. laid-lengths (returns c .laid) .1) returns)

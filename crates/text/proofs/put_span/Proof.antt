@@ -12,19 +12,20 @@ use Rattle.text.proofs.put_span.Tie as tie
 returns : tie.Need-returns
 unfolding joinMap writePiece writeSpan joined bytes looksOf markedWith
 returns c =
-    let c5 = c .before .before .before .before .before in
+    let m = c .before .before .before in
+    let c5 = m .before .before .before .before in
     let c4 = c5 .before .before .before .before .before in
     let c3 = c4 .before .before .before .before in
     let c2 = c3 .before .before .before .before .before in
     let c1 = c2 .before .before .before .before in
     record {
       wrote = wrote-as (append-nil _) (c1 .put .ensures ⨟ c2 .put-style-name .ensures ⨟ c3 .put2 .ensures ⨟ c4 .put-characters .ensures ⨟ c5 .put3 .ensures);
-      spans = c .before .after .ensures;
-      marks = c .marked .ensures;
+      spans = c .after .ensures;
+      marks = m .mark .ensures;
     }
 
 pub put-span-spec : {M : Type 1} → statement M
 put-span-spec =
     tie.close (tie.spec (λ c. search needs) (λ c κs. search needs) (λ c κs. search needs) (λ c. search needs) (λ c κs. search needs)
     (λ c κs. search needs) (λ c. search needs) (λ c κs. search needs) (λ c κs. search needs) (λ c κs. search needs) (λ c. search needs)
-    returns)
+    (λ c. search needs) returns)

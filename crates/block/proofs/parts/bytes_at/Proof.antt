@@ -2,7 +2,7 @@
 -- Assumes nothing.
 use mathlib.Core.Path.{_∙_}
 use borrow.Author.Needs.{needs}
-use Rattle.meaning.specs.Gsi.{field}
+use Rattle.meaning.specs.Lists.{field}
 use Rattle.meaning.specs.Blocks.{blockAt}
 use Rattle.block.proofs.Fields.{drop-within}
 use Rattle.block.proofs.parts.bytes_at.Statement.{statement}

@@ -6,31 +6,33 @@ use native.Mathlib.Omega.{arith}
 use mathlib.Core.Path.{_≡_}
 use lib.ListN.{length, drop}
 use borrow.Author.Needs.{needs}
-use Rattle.meaning.specs.Blocks.{beforeEnd}
-use Rattle.block.proofs.Ends.{end-found, end-further, end-nowhere}
+use borrow.Author.Tests.{eq-eqb, ne-eqb}
+use Rattle.meaning.specs.Lists.{takeWhile}
+use Rattle.meaning.specs.Blocks.{inText}
+use Rattle.meaning.proofs.ListLaws.{while-more, while-stops, while-ends}
 use Rattle.block.proofs.read.length_before_end.Statement.{statement}
 use Rattle.block.proofs.read.length_before_end.Tie as tie
 
 abbrev Inv-loop : tie.InvT-loop
-Inv-loop text i₀ i = (i ≤ length text) × (i + length (beforeEnd (drop i text)) ≡ length (beforeEnd text))
+Inv-loop text i₀ i = (i ≤ length text) × (i + length (takeWhile inText (drop i text)) ≡ length (takeWhile inText text))
 
 abbrev μ-loop : tie.MeasureT-loop
 μ-loop text i₀ i = length text - i
 
 returns : tie.Need-returns Inv-loop μ-loop
+unfolding inText
 returns c =
-    let l = c .before .before .before .loop in
-    omega (arith, end-found (c .before .before .before .before .args .text .now) (l .i) (omega arith) (c .if1 .taken))
+    let l = c .before .before .before in
+    omega (arith, while-stops inText (l .before .args .text .now) (l .loop .i) 0 (omega arith) (rw (eq-eqb _ 143 (c .if1 .taken))))
 
 loop-again : tie.Need-loop-again Inv-loop μ-loop
+unfolding inText
 loop-again c =
-    let l = c .before .before .before .loop in
-    omega (arith, end-further (c .before .before .before .before .args .text .now) (l .i) (omega arith) (c .if1 .left))
+    let l = c .before .before .before in
+    omega (arith, while-more inText (l .before .args .text .now) (l .loop .i) 0 (omega arith) (rw (ne-eqb _ 143 (c .if1 .left))))
 
 returns-2 : tie.Need-returns-2 Inv-loop μ-loop
-returns-2 c =
-    let l = c .before .loop in
-    omega (arith, end-nowhere (c .before .before .args .text .now) (l .i) (omega arith))
+returns-2 c = omega (arith, while-ends inText (c .before .before .args .text .now) (c .before .loop .i) (omega arith))
 
 pub length-before-end-spec : {M : Type 1} → statement M
 length-before-end-spec =

@@ -1,9 +1,8 @@
 -- `composed` gives the entry of an accent and a letter in the one table.
 -- Assumes nothing.
-use Rattle.charset.proofs.Codes.{composed-alone, composed-at, composed-beyond}
+use Rattle.charset.proofs.Codes.{composed-alone, composed-at}
 use Rattle.meaning.specs.Characters.{composed}
-use Rattle.meaning.specs.Tables.{composedTable}
-use mathlib.Core.Path.{sym}
+use mathlib.Core.Path.{sym, _∙_}
 use native.Mathlib.Omega.{arith}
 use borrow.Author.Needs.{needs}
 use Rattle.charset.proofs.characters.composed.Statement.{statement}
@@ -17,13 +16,7 @@ returns-2 : tie.Need-returns-2
 returns-2 c = rw (c .if2 .taken) (sym (composed-alone _))
 
 returns-3 : tie.Need-returns-3
-unfolding composedTable
-returns-3 c = sym (composed-at _ _ (omega arith) (omega arith))
-
-returns-4 : tie.Need-returns-4
-returns-4 c = sym (composed-beyond _ _ (omega arith) (omega arith) (omega arith))
+returns-3 c = c .entry .ensures ∙ sym (composed-at _ _ (omega arith) (omega arith))
 
 pub composed-spec : {M : Type 1} → statement M
-composed-spec =
-    tie.close (tie.spec returns returns-2 (λ c. search needs) (λ c. search needs) (λ c. search needs) (λ c. search needs)
-    (λ c. search needs) (λ c. search needs) returns-3 returns-4)
+composed-spec = tie.close (tie.spec returns returns-2 (λ c. search needs) (λ c. search needs) (λ c κs. search needs) returns-3)

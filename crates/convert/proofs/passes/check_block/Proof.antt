@@ -1,57 +1,41 @@
--- `check_block`: a refusal, no closed set, a set that breaks a rule, or one that is measured.
+-- `check_block` is a step of the walk, with the rules 13 to 15 over closed sets.
 -- Assumes nothing.
+use mathlib.Core.Path.{sym}
 use borrow.Author.Needs.{needs}
-use native.Mathlib.Omega.{arith}
-use Rattle.sets.proofs.Laws.{stepped}
-use Rattle.convert.proofs.Laying.{laid-none}
-use Rattle.convert.proofs.Stepping.{checked-refused, checked-pending, closed-size, checked-broken, checked-laid}
+use Rattle.convert.proofs.Standing.{good-number, on-full, on-broken, on-pending, on-bad, on-good}
 use Rattle.convert.proofs.passes.check_block.Statement.{statement}
 use Rattle.convert.proofs.passes.check_block.Tie as tie
 
-set-rule-requires : tie.Need-set-rule-requires
-set-rule-requires c κs =
-    let a = c .before .before .before .before .before .before in
-    let e = a .before .before .before .before .before .before .before .pre in
-    let d = stepped _ _ _ _ _ (a .advance .ensures .0) (a .advance .ensures .1) (e .0) (e .1) (e .2) in
-    closed-size d (c .before .before .step3 .given .1)
-
 returns : tie.Need-returns
 returns c =
-    let a = c .before .before .before .before .before .before .before .before .before in
-    let e = a .before .before .before .before .before .before .before .pre in
-    let d = stepped _ _ _ _ _ (a .advance .ensures .0) (a .advance .ensures .1) (e .0) (e .1) (e .2) in
-    checked-broken d (c .before .before .before .before .before .step3 .given .1) _ (c .before .before .set-rule .ensures) (c .before .if1 .taken) (c .refused2 .ensures)
-
-lay-requires : tie.Need-lay-requires
-lay-requires c κs =
-    let a = c .before .before .before .before .before .before .before .before .before .before in
-    let e = a .before .before .before .before .before .before .before .pre in
-    let d = stepped _ _ _ _ _ (a .advance .ensures .0) (a .advance .ensures .1) (e .0) (e .1) (e .2) in
-    closed-size d (c .before .before .before .before .before .before .step3 .given .1)
+    let t = c .before .before .before .before .before .before .before .before .before .before in
+    rw (c .refused2 .ensures)
+    (on-bad _ _ _ (t .before .before .before .before .before .before .pre .0) (t .take-block .ensures) (c .before .before .before .before .before .before .step3 .given .1) (c .before .before .before .set-rule .ensures) (c .before .if1 .taken))
 
 returns-2 : tie.Need-returns-2
-returns-2 c =
-    let a = c .before .before .before .before .before .before in
-    let e = a .before .before .before .before .before .before .before .pre in
-    let d = stepped _ _ _ _ _ (a .advance .ensures .0) (a .advance .ensures .1) (e .0) (e .1) (e .2) in
-    checked-refused d (c .before .before .step .given .1) _ (c .refused .ensures)
+returns-2 c = let t = c .before .before .before .before in on-full _ _ _ (t .before .before .before .before .before .before .pre .0) (t .take-block .ensures) (c .enum-told .given .1) _
 
 returns-3 : tie.Need-returns-3
-returns-3 c =
-    let a = c .before .before .before .before .before .before in
-    let e = a .before .before .before .before .before .before .before .pre in
-    let d = stepped _ _ _ _ _ (a .advance .ensures .0) (a .advance .ensures .1) (e .0) (e .1) (e .2) in
-    checked-pending d (c .before .before .step2 .given .1) (c .going .ensures) (laid-none _ (omega (arith, a .before .before .before .before .before .before .before .good)) (omega (arith, a .before .before .before .before .before .before .before .good)) (omega (arith, a .before .before .before .before .before .before .before .good))) _ (e .3)
+returns-3 c = let t = c .before .before .before .before .before .before in rw (c .refused .ensures) (on-broken _ _ _ (t .before .before .before .before .before .before .pre .0) (t .take-block .ensures) (c .before .before .step .given .1))
 
 returns-4 : tie.Need-returns-4
-returns-4 c =
-    let a = c .before .before .before .before .before .before .before .before .before .before .before .before .before .before in
-    let e = a .before .before .before .before .before .before .before .pre in
-    let d = stepped _ _ _ _ _ (a .advance .ensures .0) (a .advance .ensures .1) (e .0) (e .1) (e .2) in
-    checked-laid d (c .before .before .before .before .before .before .before .before .before .before .step3 .given .1) (c .going2 .ensures) _ (c .before .before .before .lay .ensures) (c .before .before .before .before .before .before .before .set-rule .ensures) (c .before .before .before .before .before .before .if1 .left) (e .3)
+returns-4 c = let t = c .before .before .before .before .before .before in rw (c .going .ensures) (on-pending _ _ _ (t .before .before .before .before .before .before .pre .0) (t .take-block .ensures) (c .before .before .step2 .given .1))
+
+same-length-5 : tie.Need-same-length-5
+same-length-5 c = let t = c .before .before .before .before .before .before .before .before .before .before .before .before .before .before .before .before .before .before in t .take-block .kept .1 .1 .1 .0
+
+returns-5 : tie.Need-returns-5
+returns-5 c =
+    let l = c .before .before .before .before .before in
+    let r = l .before .before .before .before .before .before in
+    let t = r .before .before .before .before .before .before .before in
+    rw (c .going2 .ensures)
+    (on-good _ _ _ (t .before .before .before .before .before .before .pre .0) (t .take-block .ensures) (r .before .before .before .step3 .given .1)
+    (rw (sym (r .set-rule .ensures)) (good-number _ (l .before .before .before .before .if1 .left))) (l .lay .ensures))
 
 pub check-block-spec : {M : Type 1} → statement M
 check-block-spec =
-    tie.close (tie.spec (λ c κs. search needs) (λ c. search needs) (λ c κs. search needs) (λ c. search needs) (λ c κs. search needs)
-    (λ c. search needs) set-rule-requires (λ c κs. search needs) (λ c. search needs) returns lay-requires (λ c κs. search needs)
-    (λ c. search needs) returns-2 (λ c. search needs) returns-3 (λ c. search needs) (λ c. search needs) returns-4)
+    tie.close (tie.spec (λ c κs. search needs) (λ c. search needs) (λ c. search needs) (λ c κs. search needs) (λ c. search needs)
+    (λ c κs. search needs) (λ c. search needs) (λ c κs. search needs) (λ c κs. search needs) (λ c. search needs) returns
+    (λ c κs. search needs) (λ c κs. search needs) (λ c. search needs) returns-2 (λ c. search needs) returns-3 (λ c. search needs) returns-4
+    same-length-5 (λ c. search needs) (λ c. search needs) returns-5)

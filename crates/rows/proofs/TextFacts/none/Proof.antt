@@ -1,12 +1,13 @@
 -- `TextFacts::none` meets its contract.
 -- Assumes nothing.
 use borrow.Author.Needs.{needs}
-use Rattle.rows.specs.Scanning.{noTextFacts}
+use Rattle.meaning.specs.Lists.{all, any}
+use Rattle.rows.specs.Scanning.{factsOfRows}
 use Rattle.rows.proofs.TextFacts.none.Statement.{statement}
 use Rattle.rows.proofs.TextFacts.none.Tie as tie
 
 returns : tie.Need-returns
-unfolding noTextFacts
+unfolding factsOfRows all any
 returns c = search needs
 
 pub none-spec : {M : Type 1} → statement M

@@ -10,4 +10,4 @@ unfolding timeInRange
 returns c = search needs
 
 pub in-range-spec : {M : Type 1} → statement M
-in-range-spec = tie.close (tie.spec (λ c. search needs) returns)
+in-range-spec = tie.close (tie.spec returns)

@@ -1,0 +1,13 @@
+-- The answer to an accepted file.
+-- Assumes nothing.
+use borrow.Author.Needs.{needs}
+use Rattle.meaning.specs.Conversion.{acceptedAnswer}
+use Rattle.convert.proofs.answer_accepted.Statement.{statement}
+use Rattle.convert.proofs.answer_accepted.Tie as tie
+
+returns : tie.Need-returns
+unfolding acceptedAnswer
+returns c = search needs
+
+pub answer-accepted-spec : {M : Type 1} → statement M
+answer-accepted-spec = tie.close (tie.spec returns)

@@ -1,0 +1,13 @@
+-- `Header::is_comment` tells a comment by CF.
+-- Assumes nothing.
+use borrow.Author.Needs.{needs}
+use Rattle.meaning.specs.Blocks.{isComment}
+use Rattle.meaning.proofs.Header.is_comment.Statement.{statement}
+use Rattle.meaning.proofs.Header.is_comment.Tie as tie
+
+returns : tie.Need-returns
+unfolding isComment
+returns c = search needs
+
+pub is-comment-spec : {M : Type 1} → statement M
+is-comment-spec = tie.close (tie.spec returns)

@@ -1,0 +1,13 @@
+-- `Header::is_user` tells user data by EBN.
+-- Assumes nothing.
+use borrow.Author.Needs.{needs}
+use Rattle.meaning.specs.Sets.{isUser}
+use Rattle.meaning.proofs.Header.is_user.Statement.{statement}
+use Rattle.meaning.proofs.Header.is_user.Tie as tie
+
+returns : tie.Need-returns
+unfolding isUser
+returns c = search needs
+
+pub is-user-spec : {M : Type 1} → statement M
+is-user-spec = tie.close (tie.spec returns)

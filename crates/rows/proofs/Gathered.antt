@@ -1,0 +1,91 @@
+-- The facts of a row with one token more, and those of all rows with one row more.
+-- Assumes nothing.
+use Prim.Native.Nat.{ℕ, suc, _+_, _<_, min}
+use native.Mathlib.Omega.{arith}
+use mathlib.Core.Path.{_≡_, refl, sym, ap, _∙_}
+use mathlib.Core.Bool.{Bool, true, false, cond, not, _&&_, _||_, and-false, or-false, or-true}
+use mathlib.Core.List.{List, [], _∷_, _++_, map, append-nil}
+use lib.Dec.{leb}
+use lib.ListN.{length, length-append}
+use lib.Seq.{append-snoc}
+use borrow.Author.Tests.{lt-ltb, le-leb, lt-leb, leb-true, leb-false}
+use Rattle.meaning.specs.declared.Token.{Token}
+use Rattle.meaning.specs.declared.Token.the-variants.{Character}
+use Rattle.meaning.specs.Lists.{all, any, keep}
+use Rattle.meaning.specs.Codes.{isListed, isCharacter, takesCell, isDoubleHeight}
+use Rattle.meaning.specs.Rows.{heightFirst, isShort}
+use Rattle.meaning.proofs.Logic.{by-test}
+use Rattle.meaning.proofs.ListLaws.{any-cons, all-end, any-end}
+use Rattle.rows.specs.declared.RowFacts.{RowFacts}
+use Rattle.rows.specs.Scanning.{factsOfRow, withToken, withCharacters, factsOfRows, withRow}
+
+-- a test below its limit does not tell a count from a capped one
+capped : (limit n k : ℕ) → k < limit → leb (min n limit) k ≡ leb n k
+capped limit n k h =
+    by-test (leb n k)
+    (λ e. rw e (le-leb (min n limit) k (omega (arith, leb-true n k e))))
+    (λ e. rw e (lt-leb (min n limit) k (omega (arith, leb-false n k e))))
+
+module _ (t : Token) where
+  -- no 0Dh may follow a character
+  height-cons : (ts : List Token) → heightFirst (t ∷ ts) ≡ cond (isCharacter t) (not (any isDoubleHeight ts)) (heightFirst ts)
+  unfolding heightFirst
+  height-cons ts = by-test (isCharacter t) (λ e. rw (e, heightFirst)) (λ e. rw (e, heightFirst))
+
+  kept-end : (ts : List Token) → length (keep takesCell (ts ++ (t ∷ []))) ≡ cond (takesCell t) (length (keep takesCell ts) + 1) (length (keep takesCell ts))
+  unfolding keep
+  kept-end [] = by-test (takesCell t) (λ e. rw (e, keep)) (λ e. rw (e, keep))
+  kept-end (u ∷ ts) = by-test (takesCell u) (λ e. rw (e, keep, kept-end ts) (onto (takesCell t))) (λ e. rw (e, keep) (kept-end ts))
+    where
+      onto : (b : Bool) → suc (cond b (length (keep takesCell ts) + 1) (length (keep takesCell ts))) ≡ cond b (suc (length (keep takesCell ts)) + 1) (suc (length (keep takesCell ts)))
+      onto true = omega arith
+      onto false = refl
+
+not-either : (d r : Bool) → not (d || r) ≡ (not (d && true) && not r)
+not-either true r = refl
+not-either false r = refl
+
+height-end : (ts : List Token) (t : Token) → heightFirst (ts ++ (t ∷ [])) ≡ (not (isDoubleHeight t && any isCharacter ts) && heightFirst ts)
+height-end [] t = height-cons t [] ∙ unfold any heightFirst in rw (and-false (isDoubleHeight t)) (by-test (isCharacter t) (λ e. rw e) (λ e. rw e))
+height-end (u ∷ ts) t =
+    by-test (isCharacter u)
+    (λ e.
+    rw (height-cons u (ts ++ (t ∷ [])), height-cons u ts, any-cons isCharacter u ts, e, any-end isDoubleHeight ts t)
+    (not-either (isDoubleHeight t) (any isDoubleHeight ts)))
+    (λ e. rw (height-cons u (ts ++ (t ∷ [])), height-cons u ts, any-cons isCharacter u ts, e) (height-end ts t))
+
+pub with-token : (ts : List Token) (t : Token) → factsOfRow (ts ++ (t ∷ [])) ≡ withToken (factsOfRow ts) t
+unfolding factsOfRow withToken
+with-token ts t =
+    let cells : min (length (keep takesCell (ts ++ (t ∷ [])))) 65 ≡ cond (takesCell t) (min (min (length (keep takesCell ts)) 65 + 1) 65) (min (length (keep takesCell ts)) 65) =
+    by-test (takesCell t) (λ e. rw (kept-end t ts, e) (omega arith)) (λ e. rw (kept-end t ts, e)) in
+    rw (cells, all-end isListed ts t, any-end isDoubleHeight ts t, any-end isCharacter ts t, height-end ts t)
+
+more-characters : (f : RowFacts) (c n : ℕ) → withCharacters (withToken f (Character c)) n ≡ withCharacters f (suc n)
+unfolding withCharacters withToken isListed isCharacter takesCell isDoubleHeight
+more-characters f c n =
+    let cells : min (min (f .cells + 1) 65 + n) 65 ≡ min (f .cells + suc n) 65 = omega arith in
+    rw (cells, lt-ltb 0 (suc n) (omega arith), or-true (f .character))
+
+pub with-characters : (ts : List Token) (cs : List ℕ) → factsOfRow (ts ++ map Character cs) ≡ withCharacters (factsOfRow ts) (length cs)
+with-characters ts [] =
+    unfold factsOfRow withCharacters in
+    let cells : min (min (length (keep takesCell ts)) 65 + 0) 65 ≡ min (length (keep takesCell ts)) 65 = omega arith in
+    rw (append-nil ts, cells, or-false (any isCharacter ts))
+with-characters ts (c ∷ cs) =
+    ap factsOfRow (sym (append-snoc ts (Character c) (map Character cs))) ∙ with-characters (ts ++ (Character c ∷ [])) cs
+    ∙ ap (λ (f : RowFacts). withCharacters f (length cs)) (with-token ts (Character c)) ∙ more-characters (factsOfRow ts) c (length cs)
+
+pub with-row : (rs : List (List Token)) (r : List Token) → factsOfRows (rs ++ (r ∷ [])) ≡ withRow (factsOfRows rs) (factsOfRow r)
+unfolding factsOfRows factsOfRow withRow isShort
+with-row rs r =
+    let rows : min (length rs + 1) 256 ≡ min (min (length rs) 256 + 1) 256 = omega arith in
+    rw (
+      all-end (all isListed) rs r,
+      any-end (any isDoubleHeight) rs r,
+      all-end heightFirst rs r,
+      all-end isShort rs r,
+      length-append rs (r ∷ []),
+      capped 65 (length (keep takesCell r)) 64 (omega arith),
+      rows,
+    )

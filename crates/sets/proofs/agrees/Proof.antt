@@ -1,0 +1,13 @@
+-- `agrees` compares SGN, SN and CF.
+-- Assumes nothing.
+use borrow.Author.Needs.{needs}
+use Rattle.meaning.specs.Sets.{agrees}
+use Rattle.sets.proofs.agrees.Statement.{statement}
+use Rattle.sets.proofs.agrees.Tie as tie
+
+returns : tie.Need-returns
+unfolding agrees
+returns c = search needs
+
+pub agrees-spec : {M : Type 1} → statement M
+agrees-spec = tie.close (tie.spec returns)
