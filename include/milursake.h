@@ -21,7 +21,12 @@ extern "C" {
  *          user blocks, spans
  *
  * Refusal 16 tells in `length` how long `out` must be.
+ *
+ * Calls may run at the same time, each with buffers of its own. A call needs less than MILURSAKE_STACK bytes of stack,
+ * however long the file is.
  */
+#define MILURSAKE_STACK 40000
+
 uint64_t milursake_convert(const uint8_t *file, size_t file_len, uint64_t mode, uint8_t *out, size_t out_len,
                            uint64_t *answer, size_t answer_len);
 

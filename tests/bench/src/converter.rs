@@ -1,17 +1,22 @@
-//! Measures both converters on one input.
+//! Measures the converters on one input.
 
+use crate::before::BEFORE;
 use crate::inputs::Input;
 use std::hint::black_box;
 use std::time::{Duration, Instant};
 
 /// Break mode of all conversions.
-const MODE: u64 = 1;
+pub const MODE: u64 = 1;
 
-/// Short conversions are repeated until a measurement takes about this long.
-const MEASUREMENT: Duration = Duration::from_millis(10);
+/// Short conversions are repeated until a measurement takes about this long: not
+/// longer, so that other work on the machine leaves some of them alone.
+const MEASUREMENT: Duration = Duration::from_micros(500);
+
+/// The measurements of one round take about this long together.
+const TURN: Duration = Duration::from_millis(10);
 
 /// File and output buffer to the eight numbers.
-type Convert = fn(&[u8], &mut [u8]) -> [u64; 8];
+pub type Convert = fn(&[u8], &mut [u8]) -> [u64; 8];
 
 /// A converter with its own buffer, as one that is called again and again.
 pub struct Converter {
@@ -39,58 +44,79 @@ impl Converter {
         start.elapsed() / repeats
     }
 
-    fn measure(&mut self, file: &[u8], repeats: u32) {
-        self.best = self.best.min(self.time(file, repeats));
-    }
-}
-
-/// Both converters on one input.
-pub struct Pair {
-    pub input: Input,
-    pub proved: Converter,
-    pub second: Converter,
-    repeats: u32,
-}
-
-impl Pair {
-    /// Compares answers and documents, which also warms up.
-    pub fn new(input: Input) -> Pair {
-        let room = room(&input.file);
-        let mut proved = Converter::new(by_proved, room);
-        let mut second = Converter::new(by_second, room);
-        let answers = [proved.convert(&input.file), second.convert(&input.file)];
-        assert_eq!(answers[0], answers[1], "{}: the answers differ", input.name);
-        assert!(proved.out == second.out, "{}: the documents differ", input.name);
-        let slower = proved.time(&input.file, 1).max(second.time(&input.file, 1));
-        let repeats = (MEASUREMENT.as_nanos() / slower.as_nanos().max(1)).clamp(1, 100_000) as u32;
-        Pair { input, proved, second, repeats }
-    }
-
-    /// One measurement of each; the other one goes first in the next round.
-    pub fn measure(&mut self, round: usize) {
-        let Pair { input, proved, second, repeats } = self;
-        let order = if round.is_multiple_of(2) { [proved, second] } else { [second, proved] };
-        for converter in order {
-            converter.measure(&input.file, *repeats);
+    fn measure(&mut self, file: &[u8], repeats: u32, measurements: u32) {
+        for _ in 0..measurements {
+            self.best = self.best.min(self.time(file, repeats));
         }
     }
 }
 
+/// All converters on one input.
+pub struct Race {
+    pub input: Input,
+    pub proved: Converter,
+    pub second: Converter,
+    pub before: Option<Converter>,
+    repeats: u32,
+    measurements: u32,
+}
+
+impl Race {
+    /// Compares answers and documents, which also warms up.
+    pub fn new(input: Input) -> Race {
+        let room = room(&input.file);
+        let new = |convert| Converter::new(convert, room);
+        let (proved, second, before) = (new(by_proved), new(by_second), BEFORE.map(new));
+        let mut race = Race { input, proved, second, before, repeats: 1, measurements: 1 };
+        race.compare();
+        let Race { input, proved, .. } = &mut race;
+        let once = proved.time(&input.file, 1);
+        race.repeats = times(MEASUREMENT, once);
+        race.measurements = times(TURN, once * race.repeats);
+        race
+    }
+
+    fn compare(&mut self) {
+        let Race { input, proved, second, before, .. } = self;
+        let answer = proved.convert(&input.file);
+        for other in std::iter::once(second).chain(before) {
+            assert_eq!(answer, other.convert(&input.file), "{}: the answers differ", input.name);
+            assert!(proved.out == other.out, "{}: the documents differ", input.name);
+        }
+    }
+
+    /// One measurement of each; another one goes first in the next round.
+    pub fn measure(&mut self, round: usize) {
+        let Race { input, proved, second, before, repeats, measurements } = self;
+        let mut order: Vec<_> = [proved, second].into_iter().chain(before).collect();
+        let first = round % order.len();
+        order.rotate_left(first);
+        for converter in order {
+            converter.measure(&input.file, *repeats, *measurements);
+        }
+    }
+}
+
+/// How often a time goes into a longer one, at least once.
+fn times(longer: Duration, time: Duration) -> u32 {
+    (longer.as_nanos() / time.as_nanos().max(1)).clamp(1, 10_000) as u32
+}
+
 /// The length needed comes back for an empty buffer; if the file is refused
 /// before, the buffer does not matter.
-fn room(file: &[u8]) -> usize {
+pub fn room(file: &[u8]) -> usize {
     match by_second(file, &mut [])[2] as usize {
         0 => file.len(),
         needed => needed,
     }
 }
 
-fn by_proved(file: &[u8], out: &mut [u8]) -> [u64; 8] {
+pub fn by_proved(file: &[u8], out: &mut [u8]) -> [u64; 8] {
     let mut answer = [0; 8];
     harness::convert(file, MODE, out, &mut answer);
     answer
 }
 
-fn by_second(file: &[u8], out: &mut [u8]) -> [u64; 8] {
+pub fn by_second(file: &[u8], out: &mut [u8]) -> [u64; 8] {
     second::convert(file, MODE, out).numbers()
 }

@@ -1,11 +1,18 @@
-//! The proved converter and the second converter on the same inputs, in turn.
-//! Prints tables in Markdown.
+//! The proved converter and the second converter on the same inputs, in turn, and
+//! with them an earlier proved one if MILURSAKE_BEFORE names its library. Prints
+//! tables in Markdown.
+//!
+//! `bench files DIR` writes the inputs to files; `bench proved|second|before FILE N`
+//! converts a file N times and does nothing else, for a profiler.
 
+mod before;
 mod converter;
 mod inputs;
+mod single;
 mod words;
 
-use converter::Pair;
+use before::BEFORE;
+use converter::Race;
 use inputs::{inputs, LARGEST, SHORTER};
 use std::time::{Duration, Instant};
 
@@ -15,47 +22,65 @@ const ROUNDS: usize = 60;
 const LONGEST: Duration = Duration::from_secs(30);
 
 fn main() {
-    let mut pairs: Vec<Pair> = inputs().into_iter().map(Pair::new).collect();
+    let arguments: Vec<String> = std::env::args().skip(1).collect();
+    if !arguments.is_empty() {
+        single::run(&arguments);
+        return;
+    }
+    let mut races: Vec<Race> = inputs().into_iter().map(Race::new).collect();
     let start = Instant::now();
     let mut rounds = 0;
     // Round after round over all inputs, so that a slow spell does not fall on
     // one of them alone.
     while rounds < ROUNDS && (rounds == 0 || start.elapsed() < LONGEST) {
-        pairs.iter_mut().for_each(|pair| pair.measure(rounds));
+        races.iter_mut().for_each(|race| race.measure(rounds));
         rounds += 1;
     }
-    print_speeds(&pairs, rounds);
-    let named = |name| pairs.iter().find(|pair| pair.input.name == name);
+    print_speeds(&races, rounds);
+    let named = |name| races.iter().find(|race| race.input.name == name);
     if let (Some(shorter), Some(largest)) = (named(SHORTER), named(LARGEST)) {
         println!();
         print_growth(shorter, largest);
     }
 }
 
-fn print_speeds(pairs: &[Pair], rounds: usize) {
-    println!("| Input | Bytes | Blocks | Proved, MB/s | Second, MB/s | Ratio |");
-    println!("|---|---:|---:|---:|---:|---:|");
-    for pair in pairs {
-        let bytes = pair.input.file.len();
-        let (proved, second) = (pair.proved.best, pair.second.best);
-        println!(
+fn print_speeds(races: &[Race], rounds: usize) {
+    let (more, lines) = match BEFORE {
+        Some(_) => (" Before, MB/s | Now to before |", "---:|---:|"),
+        None => ("", ""),
+    };
+    println!("| Input | Bytes | Blocks | Proved, MB/s | Second, MB/s | Ratio |{more}");
+    println!("|---|---:|---:|---:|---:|---:|{lines}");
+    for race in races {
+        let bytes = race.input.file.len();
+        let (proved, second) = (race.proved.best, race.second.best);
+        print!(
             "| {} | {} | {} | {:.1} | {:.1} | {:.2} |",
-            pair.input.name,
+            race.input.name,
             grouped(bytes),
-            grouped(pair.input.blocks()),
+            grouped(race.input.blocks()),
             speed(bytes, proved),
             speed(bytes, second),
-            second.as_secs_f64() / proved.as_secs_f64(),
+            ratio(second, proved),
         );
+        match &race.before {
+            Some(before) => {
+                println!(" {:.1} | {:.2} |", speed(bytes, before.best), ratio(before.best, proved))
+            }
+            None => println!(),
+        }
     }
     println!();
     println!("MB/s: millions of bytes of the STL file in a second. Ratio: above 1 the proved converter is");
-    println!("faster. Best of {rounds} rounds, the two converters in turn. Each has its own output buffer,");
+    println!("faster. Best of {rounds} rounds, the converters in turn. Each has its own output buffer,");
     println!("which is not cleared between conversions. All answers and documents were compared first.");
+    if BEFORE.is_some() {
+        println!("Now to before: above 1 the proved converter is faster than the earlier one.");
+    }
 }
 
 /// Time per block at both lengths; factor 1 is the straight line.
-fn print_growth(shorter: &Pair, largest: &Pair) {
+fn print_growth(shorter: &Race, largest: &Race) {
     let (few, many) = (shorter.input.blocks(), largest.input.blocks());
     println!("| Time per block | {} blocks, ns | {} blocks, ns | Factor |", grouped(few), grouped(many));
     println!("|---|---:|---:|---:|");
@@ -72,6 +97,11 @@ fn print_factor(name: &str, short: f64, long: f64) {
 /// Nanoseconds per block.
 fn per_block(blocks: usize, time: Duration) -> f64 {
     1e9 * time.as_secs_f64() / blocks as f64
+}
+
+/// How many times as fast as `other` the one is that takes `time`.
+fn ratio(other: Duration, time: Duration) -> f64 {
+    other.as_secs_f64() / time.as_secs_f64()
 }
 
 fn speed(bytes: usize, time: Duration) -> f64 {
