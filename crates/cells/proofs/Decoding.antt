@@ -16,7 +16,7 @@ use Rattle.meaning.specs.Cells.{Cell, cellCharacter, lookHere, lookNext, cellOf
 use Rattle.meaning.proofs.Logic.{by-test}
 use Rattle.meaning.proofs.ListLaws.{All}
 use Rattle.meaning.proofs.ListLaws.All.{cons}
-use Rattle.meaning.proofs.CellFacts.{Sound, rows-sound}
+use Rattle.laws.proofs.CellFacts.{Sound, rows-sound}
 use Rattle.charset.specs.declared.Reading.{Reading}
 use Rattle.charset.specs.Reading.{afterRowAt}
 use Rattle.charset.proofs.Positions.{row-over}

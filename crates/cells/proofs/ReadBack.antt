@@ -12,7 +12,7 @@ use Rattle.meaning.specs.Cells.{Cell}
 use Rattle.meaning.proofs.ListLaws.{All}
 use Rattle.meaning.proofs.ListLaws.All.{cons}
 use Rattle.meaning.proofs.LookLaws.{unpack-pack}
-use Rattle.meaning.proofs.CellFacts.{Sound}
+use Rattle.laws.proofs.CellFacts.{Sound}
 use Rattle.output.specs.Output.{stored}
 use Rattle.cells.specs.Arrays.{character, packedLook, packedCell, cellAt, cellsAt}
 

@@ -1,8 +1,8 @@
 -- Cells kept in two arrays, their characters and their packed looks.
 -- Assumes nothing.
-use Prim.Native.Nat.{ℕ, zero, suc, min}
+use Prim.Native.Nat.{ℕ, zero, suc}
 use mathlib.Core.List.{List, [], _∷_}
-use lib.ListN.{length, getD}
+use lib.ListN.{getD}
 use Rattle.meaning.specs.Looks.{pack, unpack}
 use Rattle.meaning.specs.Cells.{Cell}
 
@@ -24,7 +24,3 @@ cellAt characters looks k = packedCell (getD characters k 0) (getD looks k 0)
 unfoldable pub cellsAt : List ℕ → List ℕ → ℕ → ℕ → List Cell
 cellsAt characters looks i zero = []
 cellsAt characters looks i (suc n) = cellAt characters looks i ∷ cellsAt characters looks (suc i) n
-
--- n, cut at the number of cells that both arrays have
-abbrev pub cut : List ℕ → List ℕ → ℕ → ℕ
-cut characters looks n = min n (min (length characters) (length looks))

@@ -1,4 +1,2 @@
 pub mod Arrays
 pub mod Decoded
-pub mod Foregrounds
-pub mod Ranges

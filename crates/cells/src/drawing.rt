@@ -5,12 +5,10 @@ ghost use lib.ListN.{drop};
 ghost use Rattle.meaning.specs.Codes.{tokens};
 ghost use Rattle.meaning.specs.Cells.{controlHere, controlNext, cellOf, penAfter, rowStart};
 ghost use Rattle.rows.specs.FirstRow.{firstRow};
+use crate::BLANK;
 use meaning::Look;
 use meaning::Pen;
 use meaning::Token;
-
-// The character of a blank cell: 20h, and every control.
-pub(crate) const BLANK: u16 = 32;
 
 pub(crate) struct Drawn {
     pub character: u16,

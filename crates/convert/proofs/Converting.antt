@@ -1,47 +1,66 @@
 -- The two passes together: what was measured is the document's, and what was written is the document.
 -- Assumes nothing.
-use Prim.Native.Nat.{ℕ, _+_, _≤_, _<_, _^_}
+use Prim.Native.Nat.{ℕ, _≤_, _<_, _^_}
 use native.Mathlib.Omega.{arith}
 use mathlib.Core.Path.{_≡_, refl, sym, ap, _∙_}
 use mathlib.Core.Bool.{Bool, true, false}
-use mathlib.Core.List.{List, [], _++_, map, map-append, append-assoc}
+use mathlib.Core.List.{List, [], _∷_, _++_, map, map-append, append-assoc}
 use lib.Dec.{leb}
 use lib.ListN.{length, replicate, length-append}
 use borrow.Author.Tests.{le-leb, lt-leb, leb-true}
 use Rattle.meaning.specs.declared.Refusal.{Refusal}
-use Rattle.meaning.specs.declared.Counts.{Counts}
 use Rattle.meaning.specs.declared.Answer.{Answer}
+use Rattle.meaning.specs.declared.Header.{Header}
 use Rattle.meaning.specs.declared.Format.{Format}
 use Rattle.meaning.specs.Refusals.{noRefusal, isGood}
 use Rattle.meaning.specs.Lists.{joinMap, joined}
 use Rattle.meaning.specs.Gsi.{formatOf, blockCount, fileRule}
 use Rattle.meaning.specs.Looks.{lookCount}
+use Rattle.meaning.specs.Codes.{tokens}
+use Rattle.meaning.specs.Rows.{textRule}
+use Rattle.meaning.specs.Blocks.{isComment}
 use Rattle.meaning.specs.Sets.{OpenSet}
-use Rattle.meaning.specs.Walk.{Subtitle, Progress, Outcome, finish, walk, setRule, subtitlesFrom, withSubtitles, outcome}
+use Rattle.meaning.specs.Walk.{Subtitle, Progress, Outcome, finish, walk, setRule, subtitleOf, subtitlesFrom, withSubtitles, outcome}
 use Rattle.meaning.specs.Walk.Outcome.{refused, accepted}
-use Rattle.meaning.specs.Document.{Document, Paragraph, writeParagraph, paragraphLooks, documentLooks, render, documentSpans, afterParagraphs}
-use Rattle.meaning.specs.Conversion.{paragraphOf, documentOf, refusedAnswer, acceptedAnswer, answerBy, answerTo, answer, bufferAfter, output}
+use Rattle.meaning.specs.Document.{Paragraph, writeParagraph, documentLooks, render, documentSpans, afterParagraphs}
+use Rattle.meaning.specs.Conversion.{paragraphOf, documentOf, refusedAnswer, acceptedAnswer, answerBy, answerTo, answer, output}
 use Rattle.meaning.specs.Demands.{Bytes, FewestSpans}
 use Rattle.meaning.proofs.Logic.{by-test}
-use Rattle.meaning.proofs.ListLaws.{Any, any-blocks, join-append}
-use Rattle.meaning.proofs.Gathering.{mapped, finish-mapped, walk-mapped, refused-not, walk-without}
-use Rattle.meaning.proofs.Accepted.{Accepted, accepted-file, rule-kept, walk-was}
-use Rattle.meaning.proofs.Refused.{refused-untouched}
-use Rattle.meaning.proofs.Bounds.{tnb-bound, document-bound, spans-bound}
-use Rattle.meaning.proofs.Demand3.{fewest-spans}
-use Rattle.output.specs.Output.{stored, past, Wrote}
-use Rattle.output.proofs.Laws.{stored-append, _⨟_, wrote-length, wrote-placed, wrote-as}
+use Rattle.meaning.proofs.ListLaws.{Any, any-blocks}
+use Rattle.laws.proofs.Gathering.{mapped, finish-mapped, walk-mapped, refused-not, finish-accepted}
+use Rattle.laws.proofs.Accepted.{Accepted, accepted-file, rule-kept}
+use Rattle.laws.proofs.Refused.{refusal-bad, refused-untouched}
+use Rattle.laws.proofs.Bounds.{document-bound, spans-bound}
+use Rattle.laws.proofs.Demand3.{fewest-spans}
+use Rattle.output.specs.Output.{past, Wrote}
+use Rattle.output.proofs.Laws.{_⨟_, wrote-length, wrote-placed, wrote-as}
 use Rattle.styles.specs.declared.Marks.{Marks}
+use Rattle.text.proofs.Content.{content-whole}
+use Rattle.document.specs.Parts.{headOf, paragraphFor}
 use Rattle.text.specs.declared.Tally.{Tally}
-use Rattle.text.specs.Laid.{Laid, markedWith}
-use Rattle.text.proofs.Laws.{_then_}
-use Rattle.document.specs.Parts.{headOf}
-use Rattle.convert.specs.declared.passes.Pass.{Pass}
-use Rattle.convert.specs.Passing.{Page, laid, laySet, anySet, standing}
+use Rattle.checking.specs.declared.Checked.{Checked}
+use Rattle.closed.specs.Pages.{Page, laid, paragraphsFor, laySet}
+use Rattle.checking.specs.Passing.{blank, checkedOf}
+use Rattle.writing.specs.Laying.{Laying, layBlocks}
 use Rattle.convert.specs.Telling.{marksOf, measured, answerOf}
-use Rattle.convert.proofs.Standing.{good-number, bad-number, standing-good, standing-bad}
-use Rattle.convert.proofs.Laying.{laid-none, laid-append, paragraphs-whole}
+use Rattle.checking.proofs.Standing.{good-number, bad-number}
+use Rattle.closed.proofs.Laying.{laid-none, laid-append}
+use Rattle.writing.proofs.Laws.{walk-lays}
 use Rattle.convert.proofs.Marking.{looks-right}
+
+paragraph-whole :
+    (f : Format) (place : ℕ) (h : Header) (text : List ℕ) → isGood (textRule f place (h .vp) (tokens text)) ≡ true
+    → paragraphFor f h text ≡ paragraphOf f (subtitleOf (f .mode) h (tokens text))
+unfolding paragraphFor paragraphOf subtitleOf
+paragraph-whole f place h text e = rw (content-whole f place (h .vp) text e)
+
+-- what is laid for a set within the rules are the paragraphs of its subtitles
+paragraphs-whole : (f : Format) (s : OpenSet) → isGood (setRule f s) ≡ true → paragraphsFor f s ≡ map (paragraphOf f) (subtitlesFrom f s)
+unfolding setRule paragraphsFor subtitlesFrom
+paragraphs-whole f s e =
+    by-test (isComment (s .first))
+    (λ c. rw c)
+    (λ c. rw c (ap (λ (p : Paragraph). p ∷ []) (paragraph-whole f (s .place) (s .first) (s .text) (rw c at e))))
 
 -- what is laid for subtitles, from a page on
 unfoldable pageOf : Format → Page → List Subtitle → Page
@@ -67,28 +86,12 @@ module _ (f : Format) (p : Page) (h : Sound p) where
       ap (λ (q : Page). walk f (setRule f) (laySet f) q file n) (laid-none p (h .at) (h .spans))
       ∙ sym (walk-mapped (pageOf f p) f (setRule f) (withSubtitles f) (laySet f) alike [] file n)
 
--- the page of a pass that stands for a progress
-page-is :
-    (w : Pass) (text out : List ℕ) (marks : List Bool) {q : Progress Page} → standing w text out marks ≡ accepted q
-    → q .gathered ≡ record { out = out; marks = marks; tally = w .tally }
-page-is w text out marks {q} e =
-    by-test (isGood (w .refusal))
-    (λ t. same (sym (standing-good w text out marks t) ∙ e))
-    (λ t. absurd (refused-not (sym (standing-bad w text out marks t) ∙ e)))
-  where
-    same : {a b : Progress Page} → accepted a ≡ accepted b → b .gathered ≡ a .gathered
-    same z = cc
-
 -- the document in three parts: head, paragraphs, tail
 document-parts :
     {on : List Bool} (f : Format) (ss : List Subtitle) → on ≡ marksOf f ss
     → render (documentOf f ss) ≡ headOf (f .rate) on ++ (joinMap writeParagraph (map (paragraphOf f) ss) ++ afterParagraphs)
 unfolding render documentOf headOf joined marksOf
 document-parts f ss e = rw (looks-right (map (paragraphOf f) ss) e) (sym (simp append-assoc))
-
--- nothing laid yet, with all marks clear
-abbrev blank : List ℕ → Page
-blank out = record { out = out; marks = replicate lookCount false; tally = record { at = 0; spans = 0 } }
 
 module _ (mode : ℕ) (file : List ℕ) where
   -- an accepted file: what was measured is the document's
@@ -112,20 +115,21 @@ module _ (mode : ℕ) (file : List ℕ) where
     unfolding past documentSpans documentOf
     spans-right = omega (arith, spans-bound mode file p c)
 
+  -- a walk that lays, by the outcome of a file that keeps the rules 1 to 6
+  outcome-laid :
+      (p : Page) → Sound p → isGood (fileRule mode file) ≡ true
+      → (let f = formatOf mode file in finish (blockCount file) (walk f (setRule f) (laySet f) p file (blockCount file))) ≡ mapped (pageOf (formatOf mode file) p) (outcome mode file)
+  unfolding outcome
+  outcome-laid p h e = rw (walk-laid (formatOf mode file) p h file (blockCount file), e, outcome) (sym (finish-mapped _ (blockCount file) _))
+
   answer-right :
-      (room : ℕ) (out : List ℕ) (o : Outcome (List Subtitle)) → outcome mode file ≡ o
-      → answerOf (formatOf mode file) room (mapped (pageOf (formatOf mode file) (blank out)) o) ≡ answerTo (formatOf mode file) room o
-  unfolding answerOf answerTo mapped pageOf laid marksOf
-  answer-right room out (refused r) c = refl
-  answer-right room out (accepted p) c =
+      (room : ℕ) (o : Outcome (List Subtitle)) → outcome mode file ≡ o
+      → answerOf (formatOf mode file) room (checkedOf (mapped (pageOf (formatOf mode file) blank) o)) ≡ answerTo (formatOf mode file) room o
+  unfolding answerOf answerTo checkedOf mapped pageOf laid marksOf noRefusal isGood
+  answer-right room (refused r) c = rw (refusal-bad mode file c, answerOf)
+  answer-right room (accepted p) c =
       ap (λ (n : ℕ). answerBy room (p .counts) n (past 0 (length (documentLooks (map (paragraphOf (formatOf mode file)) (p .gathered)))))) (length-right p c)
       ∙ ap (answerBy room (p .counts) (length (render (documentOf (formatOf mode file) (p .gathered))))) (spans-right p c)
-
-  marks-right :
-      (p : Progress (List Subtitle)) (text out out′ : List ℕ) (on : List Bool) (w : Pass)
-      → standing w text out′ on ≡ mapped (pageOf (formatOf mode file) (blank out)) (accepted p) → on ≡ marksOf (formatOf mode file) (p .gathered)
-  unfolding mapped pageOf laid marksOf
-  marks-right p text out out′ on w e = sym (ap (λ (q : Page). q .marks) (page-is w text out′ on e))
 
   -- pass one
   abbrev Known : ℕ → Answer → Marks → Type 0
@@ -145,60 +149,51 @@ module _ (mode : ℕ) (file : List ℕ) where
       good : isGood (fileRule mode file) ≡ true
       good = rw (sym e) (good-number rule z)
 
-      pub few-blocks : {n : ℕ} → n ≡ blockCount file → n ≤ 99999
-      few-blocks a = omega (arith, tnb-bound mode file good)
-
       pub known-walk :
-          (room : ℕ) {a : Answer} {f : Format} {n : ℕ} (w : Pass) (text out out′ : List ℕ) {on : List Bool} → length out < 2 ^ 64 → f ≡ formatOf mode file
-          → n ≡ blockCount file → standing w text out′ on ≡ finish n (walk f (setRule f) (laySet f) (blank out) file n)
-          → a ≡ answerOf f room (standing w text out′ on) → Known room a (record { on = on })
-      unfolding outcome answer
-      known-walk room {a} {f} {n} w text out out′ {on} l g b s d =
-          let h : Sound (blank out) = record { room = l; at = omega arith; spans = omega arith } in
-          let x : standing w text out′ on ≡ mapped (pageOf (formatOf mode file) (blank out)) (outcome mode file) =
-          s ∙ rw (g, b, walk-laid (formatOf mode file) (blank out) h file (blockCount file), good, outcome) (sym (finish-mapped _ (blockCount file) _)) in (
-            d ∙ rw (x, g) (answer-right room out (outcome mode file) refl),
-            λ p c. marks-right p text out out′ on w (x ∙ rw c),
+          (room : ℕ) {a : Answer} {f : Format} {n : ℕ} (c : Checked) → f ≡ formatOf mode file → n ≡ blockCount file
+          → c ≡ checkedOf (finish n (walk f (setRule f) (laySet f) blank file n)) → a ≡ answerOf f room c → Known room a (c .marks)
+      unfolding answer checkedOf mapped pageOf laid marksOf
+      known-walk room c g b s d =
+          let h : Sound blank = record { room = omega arith; at = omega arith; spans = omega arith } in
+          let x : c ≡ checkedOf (mapped (pageOf (formatOf mode file) blank) (outcome mode file)) = s ∙ rw (g, b) (ap checkedOf (outcome-laid blank h good)) in (
+            d ∙ rw (x, g) (answer-right room (outcome mode file) refl),
+            λ p o. ap (λ (k : Checked). k .marks .on) x ∙ rw o,
           )
 
 -- pass two
-kept : (s : OpenSet) → isGood (anySet s) ≡ true
-unfolding anySet noRefusal isGood
-kept s = refl
-
 module _ (mode : ℕ) (file : List ℕ) where
   pub document-written :
-      {f : Format} {n at last : ℕ} {marks : Marks} {buf b1 : List ℕ} (w : Pass) (text b2 : List ℕ) {b3 : List ℕ} (on on′ : List Bool) → f ≡ formatOf mode file
-      → n ≡ blockCount file → Wrote buf 0 (headOf (f .rate) (marks .on)) b1 at → at < 2 ^ 64
-      → standing w text b2 on′ ≡ walk f anySet (laySet f) (record { out = b1; marks = on; tally = record { at = at; spans = 0 } }) file n
-      → Wrote b2 (w .tally .at) afterParagraphs b3 last → (p : Progress (List Subtitle)) → outcome mode file ≡ accepted p
+      {f : Format} {n at last : ℕ} {marks : Marks} {buf b1 b2 b3 : List ℕ} (on on′ : List Bool) (t : Tally) → f ≡ formatOf mode file → n ≡ blockCount file
+      → Wrote buf 0 (headOf (f .rate) (marks .on)) b1 at → at < 2 ^ 64
+      → record { out = b2; marks = on′; tally = t } ≡ layBlocks f file (record { out = b1; marks = on; tally = record { at = at; spans = 0 } }) n .page
+      → Wrote b2 (t .at) afterParagraphs b3 last → (p : Progress (List Subtitle)) → outcome mode file ≡ accepted p
       → marks .on ≡ marksOf (formatOf mode file) (p .gathered) → Wrote buf 0 (render (documentOf (formatOf mode file) (p .gathered))) b3 last
   unfolding mapped pageOf laid
-  document-written {f} {n} {at} {b1 = b1} w text b2 on on′ g b w1 l s w3 p c m =
+  document-written {f} {n} {at} {b1 = b1} {b2} on on′ t g b w1 l s w3 p c m =
       let r = formatOf mode file in
       let page : Page = record { out = b1; marks = on; tally = record { at = at; spans = 0 } } in
       let h : Sound page = record { room = omega (arith, w1 .room, wrote-length w1); at = l; spans = omega arith } in
-      let z : walk r (setRule r) (laySet r) page file (blockCount file) ≡ mapped (pageOf r page) (accepted p) =
-      walk-laid r page h file (blockCount file) ∙ ap (mapped (pageOf r page)) (walk-was mode file p c) in
-      let y = page-is w text b2 on′ ((rw (g, b) at s) ∙ walk-without r (setRule r) anySet kept (laySet r) page file (blockCount file) _ z) in
-      let w2 : Wrote b1 at (joinMap writeParagraph (map (paragraphOf r) (p .gathered))) b2 (w .tally .at) =
-      record { held = sym (ap (λ (q : Page). q .out) y); next = sym (ap (λ (q : Page). q .tally .at) y); room = h .room } in
+      let z : finish (blockCount file) (walk r (setRule r) (laySet r) page file (blockCount file)) ≡ mapped (pageOf r page) (accepted p) =
+      outcome-laid mode file page h (rule-kept mode file p c) ∙ ap (mapped (pageOf r page)) c in
+      let y = (rw (g, b) at s) ∙ ap (λ (q : Laying). q .page) (walk-lays r (setRule r) file page (blockCount file) _ (finish-accepted (blockCount file) _ _ z)) in
+      let w2 : Wrote b1 at (joinMap writeParagraph (map (paragraphOf r) (p .gathered))) b2 (t .at) =
+      record { held = ap (λ (q : Page). q .out) y; next = ap (λ (q : Page). q .tally .at) y; room = h .room } in
       wrote-as (document-parts r (p .gathered) m) ((rw g at w1) ⨟ w2 ⨟ w3)
 
--- the answer by what pass one laid
-module _ (f : Format) (room : ℕ) (w : Pass) (text out : List ℕ) (marks : List Bool) {a : Answer} where
-  pub told-refused : (w .refusal .number ≡ 0 → ⊥) → a ≡ refusedAnswer (w .refusal) 0 → a ≡ answerOf f room (standing w text out marks)
+-- the answer by what pass one told
+module _ (f : Format) (room : ℕ) (c : Checked) {a : Answer} where
+  pub told-refused : (c .refusal .number ≡ 0 → ⊥) → a ≡ refusedAnswer (c .refusal) 0 → a ≡ answerOf f room c
   unfolding answerOf
-  told-refused z d = d ∙ rw (standing-bad w text out marks (bad-number _ z))
+  told-refused z d = d ∙ rw (bad-number (c .refusal) z, answerOf)
 
-  module _ (z : w .refusal .number ≡ 0) {n : ℕ} (e : n ≡ measured (f .rate) marks (w .tally .at)) where
-    pub told-long : room < n → a ≡ refusedAnswer (record { number = 16; place = 0 }) n → a ≡ answerOf f room (standing w text out marks)
+  module _ (z : c .refusal .number ≡ 0) {n : ℕ} (e : n ≡ measured (f .rate) (c .marks .on) (c .tally .at)) where
+    pub told-long : room < n → a ≡ refusedAnswer (record { number = 16; place = 0 }) n → a ≡ answerOf f room c
     unfolding answerOf answerBy
-    told-long h d = d ∙ rw (standing-good w text out marks (good-number _ z), e, lt-leb _ room (rw e at h), answerBy)
+    told-long h d = d ∙ rw (good-number (c .refusal) z, answerOf, e, lt-leb _ room (rw e at h), answerBy)
 
-    pub told-good : n ≤ room → a ≡ acceptedAnswer n (w .counts) (w .tally .spans) → a ≡ answerOf f room (standing w text out marks)
+    pub told-good : n ≤ room → a ≡ acceptedAnswer n (c .counts) (c .tally .spans) → a ≡ answerOf f room c
     unfolding answerOf answerBy
-    told-good h d = d ∙ rw (standing-good w text out marks (good-number _ z), e, le-leb _ room (rw e at h), answerBy)
+    told-good h d = d ∙ rw (good-number (c .refusal) z, answerOf, e, le-leb _ room (rw e at h), answerBy)
 
 -- what the converter promises
 module _ (mode : ℕ) (file buf : List ℕ) {r : Answer} (e : r ≡ answer mode file (length buf)) where
@@ -221,9 +216,6 @@ module _ (mode : ℕ) (file buf : List ℕ) {r : Answer} (e : r ≡ answer mode 
 
       taken : Accepted Any mode file (any-blocks _) buf
       taken = accepted-file Any mode file (any-blocks _) buf answered
-
-      pub blocks-bound : blockCount file ≤ 99999
-      blocks-bound = tnb-bound mode file (rule-kept mode file (taken .progress) (taken .came))
 
       pub right-written :
           {out : List ℕ} {last : ℕ} {marks : Marks}

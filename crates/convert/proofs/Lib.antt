@@ -1,5 +1,2 @@
-pub mod Standing
-pub mod Looping
-pub mod Laying
 pub mod Marking
 pub mod Converting

@@ -1,32 +1,25 @@
 // From an EBU STL file to an EBU-TT document, in two passes over the file: the first checks and measures, the second writes.
 
 ghost use mathlib.Core.Path.{_≡_};
-ghost use mathlib.Core.Bool.{Bool};
 ghost use mathlib.Core.List.{List};
-ghost use Prim.Native.Nat.{ℕ, _≤_};
+ghost use Prim.Native.Nat.{ℕ};
 ghost use lib.ListN.{length};
-ghost use Rattle.meaning.specs.Gsi.{formatOf, blockCount};
+ghost use Rattle.meaning.specs.Gsi.{formatOf};
 ghost use Rattle.meaning.specs.Walk.{Subtitle, Progress, outcome};
 ghost use Rattle.meaning.specs.Walk.Outcome.{accepted};
 ghost use Rattle.meaning.specs.Document.{render};
-ghost use Rattle.meaning.specs.Conversion.{documentOf, refusedAnswer, acceptedAnswer, answerBy, answer, output};
+ghost use Rattle.meaning.specs.Conversion.{documentOf, refusedAnswer, acceptedAnswer, answer, output};
 ghost use Rattle.meaning.specs.Demands.{FewestSpans};
 ghost use Rattle.output.specs.Output.{Wrote};
-ghost use Rattle.sets.specs.Assembling.{textRoom};
-ghost use Rattle.convert.specs.Passing.{standing};
 ghost use Rattle.convert.specs.Telling.{marksOf, measured, answerOf};
+use checking::Checked;
 use meaning::Answer;
 use meaning::Counts;
 use meaning::Format;
 use meaning::Look;
 use meaning::Refusal;
-use passes::Pass;
-use sets::Sets;
 use styles::Marks;
 use text::Tally;
-
-mod closed;
-mod passes;
 
 fn answer_refused(r: Refusal, needed: u64) -> Answer
     ensures { λ a. ⌜ a ≡ refusedAnswer r needed ⌝ }
@@ -67,16 +60,16 @@ fn length_of(rate: u8, marks: Marks, body: usize) -> usize
     document::put_tail(&mut none, output::after(head, body))
 }
 
-// The answer at the end of pass one, for a buffer of some length.
-fn answer_of(f: Format, w: Pass, marks: Marks, room: usize) -> Answer
-    ensures { λ a. ⌜ ((text out : List ℕ) → a ≡ answerOf f room (standing w text out (marks .on))) ⌝ }
+// The answer by what pass one told, for a buffer of some length.
+fn answer_of(f: Format, c: Checked, room: usize) -> Answer
+    ensures { λ a. ⌜ a ≡ answerOf f room c ⌝ }
 {
-    let refusal = w.refusal;
+    let refusal = c.refusal;
     if refusal.number != 0 {
         return answer_refused(refusal, 0);
     }
-    let tally = w.tally;
-    let needed = length_of(f.rate, marks, tally.at);
+    let tally = c.tally;
+    let needed = length_of(f.rate, c.marks, tally.at);
     if room < needed {
         let too_long = Refusal {
             number: 16,
@@ -84,37 +77,33 @@ fn answer_of(f: Format, w: Pass, marks: Marks, room: usize) -> Answer
         };
         return answer_refused(too_long, needed as u64);
     }
-    answer_accepted(needed as u64, w.counts, tally.spans as u64)
+    answer_accepted(needed as u64, c.counts, tally.spans as u64)
 }
 
 // An answer, and the looks that the document uses.
-pub struct Examined {
-    pub answer: Answer,
-    pub marks: Marks,
+struct Examined {
+    answer: Answer,
+    marks: Marks,
 }
 
-// Pass one, over a buffer of no use.
-fn examine(file: &[u8], mode: u64, room: usize, text: &mut [u8]) -> Examined
-    requires { ⌜ length (now text) ≡ textRoom ⌝ }
+fn examine(file: &[u8], mode: u64, room: usize) -> Examined
     ensures answer { λ r. ⌜ r .answer ≡ answer mode (now (file .entry)) room ⌝ }
     ensures marks { λ r. ⌜ ((p : Progress (List Subtitle)) → outcome mode (now (file .entry)) ≡ accepted p → r .marks .on ≡ marksOf (formatOf mode (now (file .entry))) (p .gathered)) ⌝ }
 {
-    let mut on = [false; Look::COUNT];
     let rule = stl::file_rule(file, mode);
     if rule.number != 0 {
         let answer = answer_refused(rule, 0);
         return Examined {
             answer,
-            marks: Marks { on },
+            marks: Marks {
+                on: [false; Look::COUNT],
+            },
         };
     }
     let f = stl::format(file, mode);
-    let n = stl::block_count(file);
-    let mut none = [0u8; 1];
-    let t = Tally { at: 0, spans: 0 };
-    let w = passes::check_blocks(file, n, f, text, &mut none, &mut on, t);
-    let marks = Marks { on };
-    let answer = answer_of(f, w, marks, room);
+    let c = checking::check_blocks(file, stl::block_count(file), f);
+    let answer = answer_of(f, c, room);
+    let marks = c.marks;
     Examined { answer, marks }
 }
 
@@ -122,14 +111,12 @@ fn examine(file: &[u8], mode: u64, room: usize, text: &mut [u8]) -> Examined
 pub fn check(file: &[u8], mode: u64, room: usize) -> Answer
     ensures { λ r. ⌜ r ≡ answer mode (now (file .entry)) room ⌝ }
 {
-    let mut text = [0u8; Sets::ROOM];
-    let e = examine(file, mode, room, &mut text);
+    let e = examine(file, mode, room);
     e.answer
 }
 
 // Pass two, over a file that pass one accepted: head, paragraphs, tail.
-fn write(file: &[u8], mode: u64, text: &mut [u8], out: &mut [u8], marks: Marks) -> usize
-    requires { ⌜ (length (now text) ≡ textRoom) × (blockCount (now file) ≤ 99999) ⌝ }
+fn write(file: &[u8], mode: u64, out: &mut [u8], marks: Marks) -> usize
     ensures { λ r. ⌜ ((p : Progress (List Subtitle)) → outcome mode (now (file .entry)) ≡ accepted p → marks .on ≡ marksOf (formatOf mode (now (file .entry))) (p .gathered) → Wrote (now (out .entry)) 0 (render (documentOf (formatOf mode (now (file .entry))) (p .gathered))) (now (out .exit)) r) ⌝ }
 {
     let f = stl::format(file, mode);
@@ -137,8 +124,7 @@ fn write(file: &[u8], mode: u64, text: &mut [u8], out: &mut [u8], marks: Marks) 
     let at = document::put_head(out, 0, f.rate, marks);
     let t = Tally { at, spans: 0 };
     let mut again = [false; Look::COUNT];
-    let w = passes::write_blocks(file, n, f, text, out, &mut again, t);
-    let tally = w.tally;
+    let tally = writing::write_blocks(file, n, f, out, &mut again, t);
     document::put_tail(out, tally.at)
 }
 
@@ -148,13 +134,12 @@ pub fn convert(file: &[u8], mode: u64, out: &mut [u8]) -> Answer
     ensures buffer { λ r. ⌜ now (out .exit) ≡ output mode (now (file .entry)) (now (out .entry)) ⌝ }
     ensures fewest { λ r. ⌜ (r .number ≡ 0 → FewestSpans mode (now (file .entry)) r (now (out .exit))) ⌝ }
 {
-    let mut text = [0u8; Sets::ROOM];
-    let e = examine(file, mode, out.len(), &mut text);
+    let e = examine(file, mode, out.len());
     let a = e.answer;
     if a.number != 0 {
         return a;
     }
     let marks = e.marks;
-    write(file, mode, &mut text, out, marks);
+    write(file, mode, out, marks);
     a
 }

@@ -18,7 +18,7 @@ pub fn put_head(out: &mut [u8], at: usize, rate: u8, marks: Marks) -> usize
         at,
         b"<?xml version=\"1.0\" encoding=\"UTF-8\"?>\n<tt:tt xmlns:tt=\"http://www.w3.org/ns/ttml\" xmlns:ttp=\"http://www.w3.org/ns/ttml#parameter\" xmlns:tts=\"http://www.w3.org/ns/ttml#styling\" xmlns:ebuttm=\"urn:ebu:tt:metadata\" xml:lang=\"\" xml:space=\"preserve\" ttp:timeBase=\"smpte\" ttp:frameRate=\"",
     );
-    let p = output::put_digits2(out, p, rate);
+    let p = numbers::put_digits2(out, p, rate);
     let p = output::put(
         out,
         p,
@@ -41,13 +41,13 @@ pub fn put_tail(out: &mut [u8], at: usize) -> usize
 fn put_time(out: &mut [u8], at: usize, t: Time) -> usize
     ensures { λ r. ⌜ Wrote (now (out .entry)) at (writeTime t) (now (out .exit)) r ⌝ }
 {
-    let p = output::put_digits2(out, at, t.hours);
+    let p = numbers::put_digits2(out, at, t.hours);
     let p = output::put_byte(out, p, b':');
-    let p = output::put_digits2(out, p, t.minutes);
+    let p = numbers::put_digits2(out, p, t.minutes);
     let p = output::put_byte(out, p, b':');
-    let p = output::put_digits2(out, p, t.seconds);
+    let p = numbers::put_digits2(out, p, t.seconds);
     let p = output::put_byte(out, p, b':');
-    output::put_digits2(out, p, t.frames)
+    numbers::put_digits2(out, p, t.frames)
 }
 
 fn put_alignment(out: &mut [u8], at: usize, jc: u8) -> usize
@@ -76,7 +76,7 @@ pub fn put_paragraph(
     let begin = h.tci;
     let end = h.tco;
     let p = output::put(out, t.at, b"<tt:p xml:id=\"sub");
-    let p = output::put_decimal(out, p, h.sn);
+    let p = numbers::put_decimal(out, p, h.sn);
     let p = output::put(out, p, b"\" style=\"");
     let p = put_alignment(out, p, h.jc);
     let p = output::put(out, p, b"\" begin=\"");

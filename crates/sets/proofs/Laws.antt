@@ -1,11 +1,11 @@
--- What a block brings, case by case, and the text buffer with a block's text.
+-- The step that a block makes, case by case, and what it brings.
 -- Assumes nothing.
 use Prim.Native.Nat.{ℕ, suc, _+_, _-_, _≤_, _<_}
 use native.Mathlib.Omega.{arith}
-use mathlib.Core.Path.{_≡_, sym, _∙_}
+use mathlib.Core.Path.{_≡_, refl, sym, _∙_}
 use mathlib.Core.Bool.{Bool, true, false, not, _||_}
-use mathlib.Core.List.{List, [], _∷_, _++_}
-use mathlib.Core.Option.{Option, none, some}
+use mathlib.Core.List.{List, [], _∷_, _++_, append-assoc}
+use mathlib.Core.Option.{some}
 use lib.Dec.{leb, eqb}
 use lib.ListN.{length, take, length-append}
 use lib.Seq.{take-at, length-take-le}
@@ -16,16 +16,18 @@ use Rattle.meaning.specs.declared.Format.{Format}
 use Rattle.meaning.specs.Refusals.{noRefusal, isGood, firstBroken, inTurn}
 use Rattle.meaning.specs.Blocks.{headerOf, blockText, firstBlockRules}
 use Rattle.meaning.specs.Sets.{OpenSet, Event, unless, closeAtLast, opening, goesOn, agrees, continuing, isUser, advance}
-use Rattle.meaning.specs.Sets.Event.{broken, pending}
+use Rattle.meaning.specs.Sets.Event.{broken}
 use Rattle.meaning.proofs.Logic.{by-test}
 use Rattle.meaning.proofs.RefusalLaws.{in-turn}
-use Rattle.output.specs.Output.{past, Wrote}
+use Rattle.output.specs.Output.{stored, past, Wrote}
 use Rattle.output.proofs.Laws.{stored-fits}
 use Rattle.sets.specs.declared.Set.{Set}
+use Rattle.sets.specs.declared.Current.{Current}
 use Rattle.sets.specs.declared.Current.the-variants.{Between, Open}
 use Rattle.sets.specs.declared.Sets.{Sets}
 use Rattle.sets.specs.declared.Step.{Step}
-use Rattle.sets.specs.Assembling.{setOf, currentOf, assemblyOf, eventOf, textEnd, hasRoom, eventIn, textAfter}
+use Rattle.sets.specs.declared.Step.the-variants.{NoRoom, Pending}
+use Rattle.sets.specs.Assembling.{setWith, setOf, currentOf, assemblyOf, eventOf, textEnd, hasRoom, sizeAfter, sizedSet, sizedCurrent, sizedSets, stepOf, stepIn, textAfter}
 
 -- rules that are kept, or not
 unless-good : (r : Refusal) (e : Event) → r .number ≡ 0 → unless r e ≡ e
@@ -81,26 +83,65 @@ room-left room at n h =
     (λ e. rw e (lt-leb n (room - at) (omega (arith, leb-false (at + n) room e))))
 
 -- a text stored behind another that stands at the front
-pub front-joined :
-    {buf b1 xs : List ℕ} {at r : ℕ} → Wrote buf at xs b1 r → at + length xs ≤ length buf → take r b1 ≡ take at buf ++ xs
-unfolding past
-front-joined {buf} {b1} {xs} {at} {r} w h =
+front-joined : (buf xs : List ℕ) (at : ℕ) → at + length xs ≤ length buf → take (at + length xs) (stored buf at xs) ≡ take at buf ++ xs
+front-joined buf xs at h =
     let l : length (take at buf ++ xs) ≡ at + length xs = simp length-append (omega (arith, length-take-le at buf (omega arith))) in
-    let e : r ≡ at + length xs = omega (arith, w .next, w .room) in
-    rw (w .held, stored-fits buf at xs h, e) (take-at (take at buf ++ xs) _ _ l)
+    rw (stored-fits buf at xs h) (take-at (take at buf ++ xs) _ _ l)
+
+front-kept : (buf xs : List ℕ) (at : ℕ) → at + length xs ≤ length buf → take at (stored buf at xs) ≡ take at buf
+front-kept buf xs at h = rw (stored-fits buf at xs h, append-assoc) (take-at (take at buf) _ _ (length-take-le at buf (omega arith)))
+
+pub same-event : {d e : Event} → some d ≡ some e → e ≡ d
+same-event z = cc
+
+-- an event of which the text buffer holds the texts is the one that its step brings
+module _ (n : ℕ) (text : List ℕ) where
+  abbrev Brought : Event → Type 0
+  Brought e = eventOf (stepOf n e) text ≡ some e
+
+  brought-closing : (s : OpenSet) (least : ℕ) → s .text ≡ take n text → Brought (closeAtLast s least)
+  unfolding closeAtLast stepOf sizedSets sizedCurrent sizedSet eventOf assemblyOf currentOf setOf setWith
+  brought-closing s least h = by-test (eqb (s .last) 255) (λ e. rw (e, closeAtLast, sym h)) (λ e. rw (e, closeAtLast, sym h))
+
+  brought-unless : (r : Refusal) (e : Event) → Brought e → Brought (unless r e)
+  unfolding unless stepOf eventOf
+  brought-unless r e h = by-test (isGood r) (λ g. rw (g, unless) h) (λ g. rw (g, unless))
+
+  brought-opening : (f : Format) (place : ℕ) (h : Header) (part : List ℕ) (least : ℕ) → part ≡ take n text → Brought (opening f place h part least)
+  unfolding opening
+  brought-opening f place h part least e = brought-unless _ _ (brought-closing _ _ e)
+
+  brought-continuing : (place : ℕ) (h : Header) (part : List ℕ) (s : OpenSet) (least : ℕ) → s .text ++ part ≡ take n text → Brought (continuing place h part s least)
+  unfolding continuing
+  brought-continuing place h part s least e = brought-unless _ _ (brought-closing _ _ e)
+
+-- the state is told by what it stands for and by the size of its text
+sized-current : (c : Current) (text : List ℕ) → sizedCurrent (textEnd c) (currentOf c text) ≡ c
+unfolding sizedCurrent sizedSet currentOf setOf setWith textEnd
+sized-current Between text = refl
+sized-current (Open s) text = refl
+
+current-kept : (c : Current) (text part : List ℕ) → textEnd c + length part ≤ length text → currentOf c (stored text (textEnd c) part) ≡ currentOf c text
+unfolding currentOf setOf textEnd
+current-kept Between text part h = refl
+current-kept (Open s) text part h = rw (front-kept text part (s .size) h)
+
+sized-same : (s : Sets) (text : List ℕ) → sizedSets (textEnd (s .current)) (assemblyOf s text) ≡ s
+unfolding sizedSets assemblyOf
+sized-same s text = rw (sized-current (s .current) text)
 
 -- a block, by what is read of it and by the room for its text
 module _ (f : Format) (place : ℕ) (b : List ℕ) (s : Sets) (text : List ℕ) {h : Header} (hd : h ≡ headerOf b) {user : Bool} (us : user ≡ isUser h) where
   -- what is promised of a step and of the text buffer
-  abbrev Told : Option Event → List ℕ → Type 0
-  Told e text′ = (e ≡ eventIn f place b s text) × (text′ ≡ textAfter b s text)
+  abbrev Told : Step → List ℕ → Type 0
+  Told r text′ = (r ≡ stepIn f place b s text) × (text′ ≡ textAfter b s text)
 
   user-is : isUser (headerOf b) ≡ user
   user-is = rw (sym hd) (sym us)
 
-  pub on-user : user ≡ true → Told (some (pending (assemblyOf s text))) text
-  unfolding eventIn textAfter hasRoom advance
-  on-user u = (rw (user-is, u, advance), rw (user-is, u))
+  pub on-user : user ≡ true → Told (Pending s) text
+  unfolding stepIn sizeAfter textAfter hasRoom advance stepOf
+  on-user u = (rw (user-is, u, advance, sized-same s text), rw (user-is, u))
 
   module _ (n : user ≡ false) {part : List ℕ} (pt : part ≡ blockText b) {at : ℕ} (te : at ≡ textEnd (s .current)) {room : Bool} (hr : room ≡ leb (at + length part) (length text)) where
     other : isUser (headerOf b) ≡ false
@@ -109,8 +150,8 @@ module _ (f : Format) (place : ℕ) (b : List ℕ) (s : Sets) (text : List ℕ) 
     room-is : leb (textEnd (s .current) + length (blockText b)) (length text) ≡ room
     room-is = rw (sym te, sym pt) (sym hr)
 
-    pub on-full : not room ≡ true → Told none text
-    unfolding eventIn textAfter hasRoom
+    pub on-full : not room ≡ true → Told NoRoom text
+    unfolding stepIn textAfter hasRoom
     on-full z = let e = not-true room z in (rw (other, room-is, e), rw (other, room-is, e))
 
     module _ (ok : not room ≡ false) {text′ : List ℕ} {size : ℕ} (w : Wrote text at part text′ size) where
@@ -121,26 +162,48 @@ module _ (f : Format) (place : ℕ) (b : List ℕ) (s : Sets) (text : List ℕ) 
       unfolding textAfter hasRoom
       stored-text = rw (other, room-is, fits, sym te, sym pt) (w .held)
 
-      joined : take size text′ ≡ take at text ++ part
-      joined = front-joined w (leb-true (at + length part) (length text) (sym hr ∙ fits))
+      size-is : size ≡ sizeAfter b s
+      unfolding sizeAfter past
+      size-is = rw (other, sym te, sym pt) (omega (arith, w .next, w .room, leb-true (at + length part) (length text) (sym hr ∙ fits)))
 
-      event-is : eventIn f place b s text ≡ some (advance f place b (assemblyOf s text))
-      unfolding eventIn hasRoom
-      event-is = rw (other, room-is, fits)
+      told : (r : Step) → r ≡ stepOf size (advance f place b (assemblyOf s text)) → Told r text′
+      unfolding stepIn hasRoom
+      told r g = (g ∙ rw (size-is, other, room-is, fits), stored-text)
 
-      pub on-first :
-          s .current ≡ Between → (r : Step) → ((t : List ℕ) → eventOf r t ≡ some (opening f place h (take size t) (s .least)))
-          → Told (eventOf r text′) text′
-      unfolding advance assemblyOf currentOf textEnd
-      on-first e r g =
-          let z : at ≡ 0 = te ∙ rw e in
-          (g text′ ∙ rw (joined, z) (rw (event-is, other, advance, e, hd, pt)), stored-text)
+      pub on-first : s .current ≡ Between → (r : Step) → ((t : List ℕ) → r ≡ stepOf size (opening f place h t (s .least))) → Told r text′
+      unfolding advance assemblyOf currentOf
+      on-first e r g = told r (g part ∙ rw (other, advance, e, hd, pt))
 
       pub on-next :
-          {c : Set} → s .current ≡ Open c → (r : Step)
-          → ((t old new : List ℕ) → take size t ≡ old ++ new → eventOf r t ≡ some (continuing place h new (record { place = c .place; first = c .first; last = c .last; text = old }) (s .least)))
-          → Told (eventOf r text′) text′
-      unfolding advance assemblyOf currentOf setOf textEnd
-      on-next {c} e r g =
-          let z : at ≡ c .size = te ∙ rw e in
-          (g text′ (take at text) part joined ∙ rw (event-is, other, advance, e, hd, pt, z), stored-text)
+          {c : Set} → s .current ≡ Open c → (r : Step) → ((t new : List ℕ) → r ≡ stepOf size (continuing place h new (setWith c t) (s .least)))
+          → Told r text′
+      unfolding advance assemblyOf currentOf setOf
+      on-next {c} e r g = told r (g (take (c .size) text) part ∙ rw (other, advance, e, hd, pt))
+
+-- where there is room, the step brings what the block brings
+module _ (f : Format) (place : ℕ) (b : List ℕ) (s : Sets) (text : List ℕ) where
+  room : hasRoom b s text ≡ true → isUser (headerOf b) ≡ false → textEnd (s .current) + length (blockText b) ≤ length text
+  unfolding hasRoom
+  room h u = leb-true _ _ (rw u at h)
+
+  brought :
+      (c : Current) → s .current ≡ c → textEnd c + length (blockText b) ≤ length text → isUser (headerOf b) ≡ false
+      → Brought (textEnd c + length (blockText b)) (stored text (textEnd c) (blockText b)) (advance f place b (assemblyOf s text))
+  unfolding advance assemblyOf currentOf setOf setWith textEnd
+  brought Between e h u = rw (u, advance, e) (brought-opening _ _ _ _ _ _ _ (sym (front-joined text (blockText b) 0 h)))
+  brought (Open c) e h u = rw (u, advance, e) (brought-continuing _ _ _ _ _ _ _ (sym (front-joined text (blockText b) (c .size) h)))
+
+  pub step-event : hasRoom b s text ≡ true → eventOf (stepIn f place b s text) (textAfter b s text) ≡ some (advance f place b (assemblyOf s text))
+  unfolding stepIn sizeAfter textAfter advance stepOf eventOf
+  step-event h =
+      by-test (isUser (headerOf b))
+      (λ u. rw (h, u, advance, sized-same s text))
+      (λ u. rw (h, u) (brought (s .current) refl (room h u) u))
+
+  -- the state stands for the same with the block's text behind it
+  pub text-kept : hasRoom b s text ≡ true → assemblyOf s (textAfter b s text) ≡ assemblyOf s text
+  unfolding assemblyOf textAfter
+  text-kept h =
+      by-test (isUser (headerOf b))
+      (λ u. rw (h, u))
+      (λ u. rw (h, u, current-kept (s .current) text (blockText b) (room h u)))

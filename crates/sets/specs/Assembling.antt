@@ -1,4 +1,4 @@
--- What the state of the assembly stands for, with the text buffer, and what a step brings.
+-- What the state of the assembly stands for, with the text buffer, and the step that a block makes.
 -- Assumes nothing.
 use Prim.Native.Nat.{ℕ, _+_}
 use mathlib.Core.Bool.{Bool, cond, not, _&&_, _||_}
@@ -22,9 +22,13 @@ use Rattle.sets.specs.declared.Step.the-variants.{NoRoom, Broken, Pendin
 abbrev pub textRoom : ℕ
 textRoom = 26992
 
--- a set: its text stands at the front of the text buffer
+-- a set with its text
+unfoldable pub setWith : Set → List ℕ → OpenSet
+setWith s text = record { place = s .place; first = s .first; last = s .last; text = text }
+
+-- its text stands at the front of the text buffer
 unfoldable pub setOf : Set → List ℕ → OpenSet
-setOf s text = record { place = s .place; first = s .first; last = s .last; text = take (s .size) text }
+setOf s text = setWith s (take (s .size) text)
 
 unfoldable pub currentOf : Current → List ℕ → Option OpenSet
 currentOf Between text = none
@@ -33,7 +37,7 @@ currentOf (Open s) text = some (setOf s text)
 unfoldable pub assemblyOf : Sets → List ℕ → Assembly
 assemblyOf s text = record { least = s .least; current = currentOf (s .current) text }
 
--- what a step brought, if there was room
+-- what a step brought, with the text buffer after it, if there was room
 unfoldable pub eventOf : Step → List ℕ → Option Event
 eventOf NoRoom text = none
 eventOf (Broken r) text = some (broken r)
@@ -49,9 +53,29 @@ textEnd (Open s) = s .size
 unfoldable pub hasRoom : List ℕ → Sets → List ℕ → Bool
 hasRoom b s text = isUser (headerOf b) || leb (textEnd (s .current) + length (blockText b)) (length text)
 
--- what a block brings, if there is room
-unfoldable pub eventIn : Format → ℕ → List ℕ → Sets → List ℕ → Option Event
-eventIn f place b s text = cond (hasRoom b s text) (some (advance f place b (assemblyOf s text))) none
+-- the size of the text with a block's text; user data adds nothing
+unfoldable pub sizeAfter : List ℕ → Sets → ℕ
+sizeAfter b s = cond (isUser (headerOf b)) (textEnd (s .current)) (textEnd (s .current) + length (blockText b))
+
+-- the other way: a size stands for the text
+unfoldable pub sizedSet : ℕ → OpenSet → Set
+sizedSet n s = record { place = s .place; first = s .first; last = s .last; size = n }
+
+unfoldable pub sizedCurrent : ℕ → Option OpenSet → Current
+sizedCurrent n none = Between
+sizedCurrent n (some s) = Open (sizedSet n s)
+
+unfoldable pub sizedSets : ℕ → Assembly → Sets
+sizedSets n a = record { least = a .least; current = sizedCurrent n (a .current) }
+
+unfoldable pub stepOf : ℕ → Event → Step
+stepOf n (broken r) = Broken r
+stepOf n (pending a) = Pending (sizedSets n a)
+stepOf n (closed s a) = Closed (sizedSet n s) (sizedSets n a)
+
+-- the step that a block makes: what it brings, if there is room
+unfoldable pub stepIn : Format → ℕ → List ℕ → Sets → List ℕ → Step
+stepIn f place b s text = cond (hasRoom b s text) (stepOf (sizeAfter b s) (advance f place b (assemblyOf s text))) NoRoom
 
 -- the text buffer after a block
 unfoldable pub textAfter : List ℕ → Sets → List ℕ → List ℕ

@@ -2,14 +2,12 @@
 // the caller lends.
 
 ghost use mathlib.Core.Path.{_≡_};
-ghost use mathlib.Core.List.{List, _++_};
-ghost use mathlib.Core.Option.{some};
+ghost use mathlib.Core.List.{List};
 ghost use Prim.Native.Nat.{ℕ, _+_};
 ghost use lib.Dec.{leb};
-ghost use lib.ListN.{take};
 ghost use Rattle.meaning.specs.Sets.{closeAtLast, opening, goesOn, agrees, continuing};
 ghost use Rattle.meaning.specs.Walk.{isOpen};
-ghost use Rattle.sets.specs.Assembling.{setOf, assemblyOf, eventOf, textEnd, eventIn, textAfter};
+ghost use Rattle.sets.specs.Assembling.{setWith, assemblyOf, textEnd, stepOf, stepIn, textAfter};
 use meaning::Format;
 use meaning::Header;
 use meaning::Refusal;
@@ -37,6 +35,12 @@ impl Sets {
     // The longest text: 241 blocks of 112 bytes.
     pub const ROOM: usize = 26992;
 
+    // Before the first block.
+    pub const NONE: Sets = Sets {
+        least: 0,
+        current: Current::Between,
+    };
+
     pub fn is_open(self) -> bool
         ensures { λ r. ⌜ ((text : List ℕ) → r ≡ isOpen (assemblyOf self text)) ⌝ }
     {
@@ -58,7 +62,7 @@ pub enum Step {
 
 // A set with one block more: EBN FFh closes it.
 fn close_at_last(set: Set, least: u32) -> Step
-    ensures { λ r. ⌜ ((text : List ℕ) → eventOf r text ≡ some (closeAtLast (setOf set text) least)) ⌝ }
+    ensures { λ r. ⌜ ((text : List ℕ) → r ≡ stepOf (set .size) (closeAtLast (setWith set text) least)) ⌝ }
 {
     if set.last == 255 {
         let sets = Sets {
@@ -76,7 +80,7 @@ fn close_at_last(set: Set, least: u32) -> Step
 
 // A block where no set is open: EBN 00h or FFh, then the rules 8 to 12. Its text has the given size.
 fn opening(f: Format, place: u64, h: Header, size: usize, least: u32) -> Step
-    ensures { λ r. ⌜ ((text : List ℕ) → eventOf r text ≡ some (opening f place h (take size text) least)) ⌝ }
+    ensures { λ r. ⌜ ((text : List ℕ) → r ≡ stepOf size (opening f place h text least)) ⌝ }
 {
     let ebn = h.ebn;
     if !((ebn == 0) | (ebn == 255)) {
@@ -109,7 +113,7 @@ fn agrees(first: Header, h: Header) -> bool
 
 // A block of the open set, with which the set's text has the given size.
 fn continuing(place: u64, h: Header, size: usize, set: Set, least: u32) -> Step
-    ensures { λ r. ⌜ ((text old part : List ℕ) → take size text ≡ old ++ part → eventOf r text ≡ some (continuing place h part (record { place = set .place; first = set .first; last = set .last; text = old }) least)) ⌝ }
+    ensures { λ r. ⌜ ((text part : List ℕ) → r ≡ stepOf size (continuing place h part (setWith set text) least)) ⌝ }
 {
     let first = set.first;
     let rule = Refusal::NONE.or(place, 7, goes_on(set.last, h.ebn));
@@ -144,7 +148,7 @@ fn has_room(room: usize, at: usize, n: usize) -> bool
 
 // One block: user data is passed over wherever it stands.
 pub fn advance(f: Format, place: u64, bytes: &[u8], text: &mut [u8], s: Sets) -> Step
-    ensures step { λ r. ⌜ eventOf r (now (text .exit)) ≡ eventIn f place (now (bytes .entry)) s (now (text .entry)) ⌝ }
+    ensures step { λ r. ⌜ r ≡ stepIn f place (now (bytes .entry)) s (now (text .entry)) ⌝ }
     ensures text { λ _. ⌜ now (text .exit) ≡ textAfter (now (bytes .entry)) s (now (text .entry)) ⌝ }
 {
     let h = block::header_of(bytes);

@@ -29,7 +29,7 @@ pub fn put_style_name(out: &mut [u8], at: usize, look: u16) -> usize
     ensures { λ r. ⌜ Wrote (now (out .entry)) at (styleName look) (now (out .exit)) r ⌝ }
 {
     let p = output::put_byte(out, at, b's');
-    output::put_digits3(out, p, look as usize)
+    numbers::put_digits3(out, p, look as usize)
 }
 
 // One of two texts.
@@ -58,7 +58,7 @@ fn put_colour_name(out: &mut [u8], at: usize, colour: u8) -> usize
 }
 
 // One line of the styling.
-pub fn put_style(out: &mut [u8], at: usize, look: u16) -> usize
+fn put_style(out: &mut [u8], at: usize, look: u16) -> usize
     ensures { λ r. ⌜ Wrote (now (out .entry)) at (writeStyle look) (now (out .exit)) r ⌝ }
 {
     let shown = Look::unpack(look);

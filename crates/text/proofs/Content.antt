@@ -21,7 +21,7 @@ use Rattle.meaning.specs.Cells.{Cell, newPen, rowStart, cellsOfRow, penAfterRow
 use Rattle.meaning.specs.Document.{writePiece}
 use Rattle.meaning.specs.Document.Piece.{br}
 use Rattle.meaning.specs.Conversion.{rowPieces, fillers, pieces}
-use Rattle.meaning.proofs.Bounds.{cells-length}
+use Rattle.laws.proofs.Bounds.{cells-length}
 use Rattle.meaning.proofs.Logic.{and-parts}
 use Rattle.meaning.proofs.ListLaws.{test-split}
 use Rattle.meaning.proofs.RefusalLaws.{unbroken}

@@ -10,7 +10,7 @@ use Rattle.meaning.specs.Lists.{joinMap}
 use Rattle.meaning.specs.Document.{Piece, writePiece, looksOf}
 use Rattle.meaning.specs.Document.Piece.{br}
 use Rattle.meaning.proofs.ListLaws.{join-append}
-use Rattle.meaning.proofs.FewestInAll.{looks-append}
+use Rattle.laws.proofs.FewestInAll.{looks-append}
 use Rattle.output.specs.Output.{past, Wrote}
 use Rattle.output.proofs.Laws.{_⨟_, wrote-length, wrote-nothing, wrote-here}
 use Rattle.text.specs.declared.Tally.{Tally}

@@ -14,12 +14,13 @@ use Rattle.meaning.specs.Document.{Piece}
 use Rattle.meaning.specs.Document.Piece.{span}
 use Rattle.meaning.specs.Conversion.{spanOf, rowSpans}
 use Rattle.cells.specs.declared.RowRead.{RowRead}
-use Rattle.cells.specs.declared.Shown.{Shown}
-use Rattle.cells.specs.declared.SpanRead.{SpanRead}
-use Rattle.cells.specs.Arrays.{cellsAt, cut}
+use Rattle.cells.specs.Arrays.{cellsAt}
 use Rattle.cells.specs.Decoded.{rowAt, Decoded}
-use Rattle.cells.specs.Ranges.{cellsTo, shownRange, spanAt}
-use Rattle.cells.proofs.Laws.{decoded-cells, decoded-lengths, no-spans, shown-spans, first-span}
+use Rattle.cells.proofs.Laws.{decoded-cells, decoded-lengths}
+use Rattle.spans.specs.declared.Shown.{Shown}
+use Rattle.spans.specs.declared.SpanRead.{SpanRead}
+use Rattle.spans.specs.Ranges.{cut, cellsTo, shownRange, spanAt}
+use Rattle.spans.proofs.Laws.{no-spans, shown-spans, first-span}
 use Rattle.text.specs.declared.Tally.{Tally}
 use Rattle.text.specs.Laid.{cut64, Laid, PiecesLaid, RowDone}
 use Rattle.text.proofs.Laws.{LaidLeft, left-all, left-less, left-none}

@@ -8,7 +8,8 @@ ghost use Rattle.meaning.specs.Lists.{joinMap};
 ghost use Rattle.meaning.specs.Document.{escaped, writePiece};
 ghost use Rattle.meaning.specs.Document.Piece.{span, br};
 ghost use Rattle.meaning.specs.Conversion.{rowSpans, fillers};
-ghost use Rattle.cells.specs.Arrays.{cellsAt, cut};
+ghost use Rattle.cells.specs.Arrays.{cellsAt};
+ghost use Rattle.spans.specs.Ranges.{cut};
 ghost use Rattle.output.specs.Output.{Wrote};
 ghost use Rattle.text.specs.Laid.{PiecesLaid, RowDone, RowsDone, contentOf};
 use meaning::Format;
@@ -28,7 +29,7 @@ fn put_characters(out: &mut [u8], at: usize, characters: &[u16]) -> usize
     let mut p = at;
     let mut i = 0;
     while i < characters.len() {
-        p = output::put_escaped(out, p, characters[i]);
+        p = xml::put_escaped(out, p, characters[i]);
         i += 1;
     }
     p
@@ -94,12 +95,12 @@ fn put_row(
 ) -> Tally
     ensures { λ r. ⌜ PiecesLaid (now (out .entry)) (now (marks .entry)) t (map span (rowSpans (cellsAt (now (characters .entry)) (now (looks .entry)) 0 (cut (now (characters .entry)) (now (looks .entry)) n)))) (now (out .exit)) (now (marks .exit)) r ⌝ }
 {
-    let shown = cells::shown_range(characters, looks, n);
+    let shown = spans::shown_range(characters, looks, n);
     let end = shown.end;
     let mut r = t;
     let mut i = shown.start;
     while i < end {
-        let s = cells::span_at(characters, looks, i, end);
+        let s = spans::span_at(characters, looks, i, end);
         let e = s.end;
         r = put_span(out, marks, r, &characters[i..e], s.look);
         i = e;

@@ -15,7 +15,7 @@ abbrev μ-loop : tie.MeasureT-loop
 μ-loop characters₀ k codes n j₀ characters j = n - j
 
 loop-holds : tie.Need-loop-holds Inv-loop μ-loop
-loop-holds c = storing-all _ _ _ _ (c .places .ensures)
+loop-holds c = storing-all _ _ _ _ (c .fitting .ensures)
 
 cast-characters : tie.Need-cast-characters Inv-loop μ-loop
 cast-characters c = omega (arith, c .shared-slice-known2 .given (c .before .before .loop .j))

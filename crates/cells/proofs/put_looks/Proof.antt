@@ -16,12 +16,12 @@ abbrev μ-loop : tie.MeasureT-loop
 μ-loop looks₀ k n packed n' j₀ looks j = n' - j
 
 loop-holds : tie.Need-loop-holds Inv-loop μ-loop
-loop-holds c = storing-all _ _ _ _ (rw length-replicate (c .places .ensures))
+loop-holds c = storing-all _ _ _ _ (rw length-replicate (c .fitting .ensures))
 
 loop-again : tie.Need-loop-again Inv-loop μ-loop
 loop-again c =
     let l = c .before .loop in
-    let h : l .j < c .before .before .before .before .before .args .n = omega (arith, c .before .before .places .ensures) in
+    let h : l .j < c .before .before .before .before .before .args .n = omega (arith, c .before .before .fitting .ensures) in
     storing-more (l .inv) (c .loop-test .taken) (sym (getD-replicate _ _ _ _ h))
 
 returns : tie.Need-returns Inv-loop μ-loop

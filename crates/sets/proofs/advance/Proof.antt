@@ -1,17 +1,14 @@
 -- `advance` reads the header, and the text where it is needed.
 -- Assumes nothing.
 use borrow.Author.Needs.{needs}
-use Rattle.sets.specs.Assembling.{eventOf}
 use Rattle.sets.proofs.Laws.{on-user, on-full, on-first, on-next}
 use Rattle.sets.proofs.advance.Statement.{statement}
 use Rattle.sets.proofs.advance.Tie as tie
 
 returns : tie.Need-returns
-unfolding eventOf
 returns c = on-user _ _ _ _ _ (c .before .before .header-of .ensures) (c .before .is-user .ensures) (c .if1 .taken)
 
 returns-2 : tie.Need-returns-2
-unfolding eventOf
 returns-2 c =
     let t = c .before .before in
     let b = t .before .before in

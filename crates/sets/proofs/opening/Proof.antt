@@ -2,30 +2,29 @@
 -- Assumes nothing.
 use native.Mathlib.Numerals.{add-one}
 use mathlib.Core.Path.{sym, ap, _∙_}
-use mathlib.Core.Option.{some}
 use borrow.Author.Needs.{needs}
 use borrow.Author.Tests.{not-true, not-false}
-use Rattle.sets.specs.Assembling.{setOf, eventOf}
+use Rattle.sets.specs.Assembling.{setWith, stepOf}
 use Rattle.sets.proofs.Laws.{opening-wrong, opening-broken, opening-good}
 use Rattle.sets.proofs.opening.Statement.{statement}
 use Rattle.sets.proofs.opening.Tie as tie
 
 returns : tie.Need-returns
-unfolding eventOf
-returns c text = ap some (sym (opening-wrong _ _ _ _ _ (not-true _ (c .if1 .taken))))
+unfolding stepOf
+returns c text = ap (stepOf _) (sym (opening-wrong _ _ _ _ _ (not-true _ (c .if1 .taken))))
 
 returns-2 : tie.Need-returns-2
-unfolding eventOf
+unfolding stepOf
 returns-2 c text =
     let d = c .before .before in
-    ap some (sym (opening-broken _ _ _ _ _ (not-false _ (d .before .if1 .left)) (d .first-block-rule .ensures) (c .if2 .taken)))
+    ap (stepOf _) (sym (opening-broken _ _ _ _ _ (not-false _ (d .before .if1 .left)) (d .first-block-rule .ensures) (c .if2 .taken)))
 
 returns-3 : tie.Need-returns-3
-unfolding setOf
+unfolding setWith
 returns-3 c text =
     let d = c .before .before .before .before in
     c .close-at-last .ensures text
-    ∙ ap some (rw add-one (sym (opening-good _ _ _ _ _ (not-false _ (d .before .if1 .left)) (d .first-block-rule .ensures) (c .before .before .if2 .left))))
+    ∙ ap (stepOf _) (rw add-one (sym (opening-good _ _ _ _ _ (not-false _ (d .before .if1 .left)) (d .first-block-rule .ensures) (c .before .before .if2 .left))))
 
 pub opening-spec : {M : Type 1} → statement M
 opening-spec =

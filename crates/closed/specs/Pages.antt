@@ -1,0 +1,37 @@
+-- What is laid over a buffer, and how a closed set is laid.
+-- Assumes nothing.
+use Prim.Native.Nat.{ℕ}
+use mathlib.Core.Bool.{Bool, cond}
+use mathlib.Core.List.{List, [], _∷_}
+use lib.ListN.{length}
+use Rattle.meaning.specs.declared.Format.{Format}
+use Rattle.meaning.specs.Lists.{joinMap}
+use Rattle.meaning.specs.Blocks.{isComment}
+use Rattle.meaning.specs.Sets.{OpenSet}
+use Rattle.meaning.specs.Document.{Paragraph, writeParagraph, documentLooks}
+use Rattle.output.specs.Output.{stored, past}
+use Rattle.text.specs.declared.Tally.{Tally}
+use Rattle.text.specs.Laid.{markedWith}
+use Rattle.document.specs.Parts.{paragraphFor}
+
+-- what is laid: the buffer, the marks, and the tally
+pub record Page : Type 0 where
+  pub out : List ℕ
+  pub marks : List Bool
+  pub tally : Tally
+
+-- paragraphs laid behind what is there
+unfoldable pub laid : List Paragraph → Page → Page
+laid ps p =
+    record {
+      out = stored (p .out) (p .tally .at) (joinMap writeParagraph ps);
+      marks = markedWith (p .marks) (documentLooks ps);
+      tally = record { at = past (p .tally .at) (length (joinMap writeParagraph ps)); spans = past (p .tally .spans) (length (documentLooks ps)) };
+    }
+
+-- the paragraph of a closed set; a comment has none
+unfoldable pub paragraphsFor : Format → OpenSet → List Paragraph
+paragraphsFor f s = cond (isComment (s .first)) [] (paragraphFor f (s .first) (s .text) ∷ [])
+
+unfoldable pub laySet : Format → OpenSet → Page → Page
+laySet f s p = laid (paragraphsFor f s) p

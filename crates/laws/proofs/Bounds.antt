@@ -1,0 +1,355 @@
+-- How long the document of an accepted file can get: TNB has five digits, and rule 15 bounds what each block can add.
+-- Assumes nothing.
+use Prim.Native.Nat.{ℕ, zero, suc, _+_, _*_, _-_, _/_, _%_, _≤_, _<_}
+use native.Mathlib.Omega.{arith}
+use native.Mathlib.Nat.{not-suc-le-zero}
+use mathlib.Core.Path.{_≡_, refl, ap, _∙_}
+use mathlib.Core.Bool.{Bool, true, false, cond}
+use mathlib.Core.List.{List, [], _∷_, _++_, map}
+use lib.Dec.{leb, eqb, ltb}
+use lib.ListN.{length, replicate, length-append, length-map, length-take, length-replicate}
+use borrow.Author.Tests.{leb-true}
+use Rattle.meaning.specs.declared.Pen.{Pen}
+use Rattle.meaning.specs.declared.Token.{Token}
+use Rattle.meaning.specs.Lists.{all, keep, joinMap, joined, upFrom, bytes, field}
+use Rattle.meaning.specs.Looks.{lookCount, pack, unpack}
+use Rattle.meaning.specs.Refusals.{isGood}
+use Rattle.meaning.specs.Codes.{tokens, takesCell}
+use Rattle.meaning.specs.Rows.{isDouble, rows, linesOf, rowCount, isShort, rowsFit, textRule}
+use Rattle.meaning.specs.Cells.{Cell, points, newPen, penAfter, cellsOf, cellsFrom, rowStart, cellsOfRow, penAfterRow, cellRows, isBlankOnBlack, trimFront, beforeTrimmed, trimBack, shown}
+use Rattle.meaning.specs.Spans.{lookOf, uniform, spansFrom, spans}
+use Rattle.meaning.specs.Gsi.{teletext, formatOf, blockCount, isDigit, valueFrom, tnb, fileRule}
+use Rattle.meaning.specs.declared.Time.{Time}
+use Rattle.meaning.specs.declared.Header.{Header}
+use Rattle.meaning.specs.declared.Format.{Format}
+use Rattle.meaning.specs.Walk.{Subtitle, Progress, outcome, subtitleOf}
+use Rattle.meaning.specs.Walk.Outcome.{accepted}
+use Rattle.meaning.specs.Document.{Piece, Alignment, Paragraph, Document, digits, withoutZeros, decimal, utf8, escaped, styleName, writeSpan, writePiece, writeTime, alignmentName, writeParagraph, channel, colourName, sizeName, writeStyle, isUsed, looksUsed, beforeRate, beforeStyles, beforeParagraphs, afterParagraphs, render, documentSpans}
+use Rattle.meaning.specs.Document.Piece.{span, br}
+use Rattle.meaning.specs.Document.Alignment.{left, centre, right}
+use Rattle.meaning.specs.Conversion.{spanOf, rowSpans, laterRows, rowPieces, fillers, paragraphOf, documentOf}
+use Rattle.meaning.specs.Profile.{startsWith, spanElements}
+use Rattle.meaning.proofs.Logic.{by-test, and-parts}
+use Rattle.meaning.proofs.ListLaws.{All, Any, any-blocks, all-copies, all-map, join-append, test-split}
+use Rattle.meaning.proofs.RefusalLaws.{unbroken}
+use Rattle.meaning.proofs.ListLaws.All.{nil, cons}
+use Rattle.laws.proofs.Trimming.{front-cut, front-kept, last-cut, last-kept}
+use Rattle.laws.proofs.Pieces.{fillersOf, pieces-are}
+use Rattle.laws.proofs.Elements.{elements-are-spans}
+use Rattle.laws.proofs.Walk.{Made, Held}
+use Rattle.laws.proofs.Accepted.{outcome-kept, rule-kept, tnb-right}
+
+-- after a number below b, n digits more write one below b times ten to the n
+abbrev tens : ℕ → ℕ → ℕ
+tens zero b = b
+tens (suc n) b = tens n (10 * b)
+
+digit-bound : (c : ℕ) → isDigit c ≡ true → c - 48 ≤ 9
+unfolding isDigit
+digit-bound c e = omega (arith, leb-true c 57 (and-parts (leb 48 c) (leb c 57) e .1))
+
+value-bound : (n v b : ℕ) (cs : List ℕ) → length cs ≤ n → all isDigit cs ≡ true → v < b → valueFrom v cs < tens n b
+unfolding valueFrom
+value-bound zero v b [] l t h = h
+value-bound zero v b (c ∷ cs) l t h = absurd (not-suc-le-zero l)
+value-bound (suc n) v b [] l t h = value-bound n v (10 * b) [] (omega arith) t (omega arith)
+value-bound (suc n) v b (c ∷ cs) l t h =
+    let d = test-split isDigit c cs t in
+    value-bound n (10 * v + (c - 48)) (10 * b) cs (omega arith) (d .1) (omega (arith, digit-bound c (d .0)))
+
+-- rule 6
+module _ (mode : ℕ) (file : List ℕ) (e : isGood (fileRule mode file) ≡ true) where
+  five-digits : all isDigit (field 238 5 file) ≡ true
+  unfolding fileRule
+  five-digits =
+      let r₃ = unbroken _ _ _ _ (unbroken _ _ _ _ (unbroken _ _ _ _ e .1) .1) in
+      let r₆ = unbroken _ _ _ _ (unbroken _ _ _ _ (unbroken _ _ _ _ (r₃ .1) .1) .1) in
+      and-parts _ _ (r₆ .0) .0
+
+  pub tnb-bound : blockCount file ≤ 99999
+  unfolding tnb field
+  tnb-bound =
+      omega (
+        arith,
+        tnb-right mode file e,
+        value-bound 5 0 1 (field 238 5 file) (simp length-take (omega arith)) five-digits (omega arith),
+      )
+
+-- what is joined, by a bound on each part
+every : {A : Type 0} {P : A → Type 0} → ((x : A) → P x) → (xs : List A) → All P xs
+every h [] = nil
+every h (x ∷ xs) = cons (h x) (every h xs)
+
+join-bound : {A : Type 0} (f : A → List ℕ) (n : ℕ) {xs : List A} → All (λ (x : A). length (f x) ≤ n) xs → length (joinMap f xs) ≤ n * length xs
+unfolding joinMap
+join-bound f n nil = omega arith
+join-bound f n (cons h k) = simp length-append (omega (arith, join-bound f n k))
+
+either-bound : (n : ℕ) (b : Bool) (x y : List ℕ) → length x ≤ n → length y ≤ n → length (cond b x y) ≤ n
+either-bound n true x y h k = h
+either-bound n false x y h k = k
+
+-- numbers and characters
+digits-length : (k n : ℕ) → length (digits k n) ≡ k
+unfolding digits
+digits-length zero n = refl
+digits-length (suc k) n = simp length-append (omega (arith, digits-length k (n / 10)))
+
+zeros-bound : (ds : List ℕ) → length (withoutZeros ds) ≤ length ds
+unfolding withoutZeros
+zeros-bound [] = omega arith
+zeros-bound (d ∷ []) = omega arith
+zeros-bound (d ∷ e ∷ ds) =
+    by-test (eqb d 48)
+    (λ f. rw (f, withoutZeros) (omega (arith, zeros-bound (e ∷ ds))))
+    (λ f. rw (f, withoutZeros) (omega arith))
+
+decimal-bound : (n : ℕ) → length (decimal n) ≤ 5
+unfolding decimal
+decimal-bound n = omega (arith, zeros-bound (digits 5 n), digits-length 5 n)
+
+utf8-bound : (p : ℕ) → length (utf8 p) ≤ 5
+unfolding utf8
+utf8-bound p =
+    either-bound 5 (ltb p 128) _ _ (omega arith)
+    (either-bound 5 (ltb p 2048) _ _ (omega arith) (either-bound 5 (ltb p 65536) _ _ (omega arith) (omega arith)))
+
+escaped-bound : (p : ℕ) → length (escaped p) ≤ 5
+unfolding escaped bytes
+escaped-bound p =
+    either-bound 5 (eqb p 38) _ _ (omega arith)
+    (either-bound 5 (eqb p 60) _ _ (omega arith) (either-bound 5 (eqb p 62) _ _ (omega arith) (utf8-bound p)))
+
+-- a span
+points-bound : (c : Cell) → length (points c) ≤ 1
+unfolding points
+points-bound c = omega arith
+
+span-bound : (g : List Cell) → length (writePiece (span (spanOf g))) ≤ 32 + 5 * length g
+unfolding writePiece writeSpan spanOf styleName joined bytes
+span-bound g =
+    let ps = joinMap points g in
+    simp length-append
+    (omega (
+      arith,
+      digits-length 3 (pack (lookOf g)),
+      join-bound escaped 5 (every escaped-bound ps),
+      join-bound points 1 (every points-bound g),
+    ))
+
+-- the bytes of pieces
+abbrev size : List Piece → ℕ
+size ps = length (joinMap writePiece ps)
+
+size-append : (ps qs : List Piece) → size (ps ++ qs) ≡ size ps + size qs
+size-append ps qs = ap length (join-append writePiece ps qs) ∙ length-append (joinMap writePiece ps) (joinMap writePiece qs)
+
+-- a row: its cells are as many as its tokens that take one, those shown are no more, and each is at worst a span by itself
+pub cells-length : (p : Pen) (ts : List Token) → length (cellsFrom p ts) ≡ length (keep takesCell ts)
+unfolding cellsFrom cellsOf keep
+cells-length p [] = refl
+cells-length p (t ∷ ts) =
+    by-test (takesCell t)
+    (λ e. rw (e, keep) (ap suc (cells-length (penAfter t p) ts)))
+    (λ e. rw (e, keep) (cells-length (penAfter t p) ts))
+
+front-bound : (cs : List Cell) → length (trimFront cs) ≤ length cs
+front-bound [] = unfold trimFront in omega arith
+front-bound (c ∷ cs) =
+    by-test (isBlankOnBlack c)
+    (λ e. rw (front-cut c cs e) (omega (arith, front-bound cs)))
+    (λ e. rw (front-kept c cs e) (omega arith))
+
+last-bound : (c : Cell) (cs : List Cell) → length (beforeTrimmed c cs) ≤ suc (length cs)
+last-bound c [] = by-test (isBlankOnBlack c) (λ e. rw (last-cut c e) (omega arith)) (λ e. rw (last-kept c e) (omega arith))
+last-bound c (d ∷ ds) = unfold beforeTrimmed in omega arith
+
+back-bound : (cs : List Cell) → length (trimBack cs) ≤ length cs
+unfolding trimBack
+back-bound [] = omega arith
+back-bound (c ∷ cs) = omega (arith, last-bound c (trimBack cs), back-bound cs)
+
+from-bound : (cur cs : List Cell) → size (map span (map spanOf (spansFrom cur cs))) ≤ 32 + 5 * length cur + 37 * length cs
+unfolding spansFrom joinMap
+from-bound cur [] = simp length-append (omega (arith, span-bound cur))
+from-bound cur (c ∷ cs) =
+    by-test (uniform (cur ++ (c ∷ [])))
+    (λ e. rw (e, spansFrom) (omega (arith, from-bound (cur ++ (c ∷ [])) cs, length-append cur (c ∷ []))))
+    (λ e. rw (e, spansFrom) (simp length-append (omega (arith, span-bound cur, from-bound (c ∷ []) cs))))
+
+spans-size : (cs : List Cell) → size (map span (map spanOf (spans cs))) ≤ 37 * length cs
+unfolding spans joinMap
+spans-size [] = omega arith
+spans-size (c ∷ cs) = omega (arith, from-bound (c ∷ []) cs)
+
+row-bound : (p : Pen) (r : List Token) → isShort r ≡ true → size (map span (rowSpans (cellsOfRow p r))) ≤ 2368
+unfolding isShort rowSpans shown
+row-bound p r e =
+    let cs = cellsOfRow p r in
+    omega (
+      arith,
+      leb-true (length (keep takesCell r)) 64 e,
+      cells-length (rowStart r p) r,
+      front-bound cs,
+      back-bound (trimFront cs),
+      spans-size (shown cs),
+    )
+
+-- the rows of a subtitle, each with a tt:br
+later-bound : (p : Pen) (rs : List (List Token)) → all isShort rs ≡ true → size (laterRows (cellRows p rs)) ≤ 2376 * length rs
+unfolding cellRows laterRows joinMap writePiece bytes
+later-bound p [] e = omega arith
+later-bound p (r ∷ rs) e =
+    let s = test-split isShort r rs e in
+    omega (
+      arith,
+      size-append (map span (rowSpans (cellsOfRow p r))) (laterRows (cellRows (penAfterRow p r) rs)),
+      row-bound p r (s .0),
+      later-bound (penAfterRow p r) rs (s .1),
+    )
+
+rows-later : (rs : List (List Cell)) → size (rowPieces rs) ≤ size (laterRows rs)
+unfolding rowPieces laterRows joinMap writePiece bytes
+rows-later [] = omega arith
+rows-later (r ∷ rs) = omega arith
+
+fillers-bound : (n : ℕ) → size (replicate n br) ≤ 8 * n
+unfolding writePiece bytes
+fillers-bound n = omega (arith, join-bound writePiece 8 (all-copies n br (omega arith)), length-replicate n br)
+
+-- a paragraph: beside its pieces, fixed text and numbers
+time-length : (t : Time) → length (writeTime t) ≡ 11
+unfolding writeTime joined bytes
+time-length t =
+    simp length-append
+    (omega (arith, digits-length 2 (t .hours), digits-length 2 (t .minutes), digits-length 2 (t .seconds), digits-length 2 (t .frames)))
+
+alignment-bound : (a : Alignment) → length (alignmentName a) ≤ 11
+unfolding alignmentName bytes
+alignment-bound left = omega arith
+alignment-bound centre = omega arith
+alignment-bound right = omega arith
+
+paragraph-bound : (p : Paragraph) → length (writeParagraph p) ≤ 100 + size (p .pieces)
+unfolding writeParagraph joined bytes
+paragraph-bound p =
+    simp length-append
+    (omega (arith, decimal-bound (p .number), alignment-bound (p .alignment), time-length (p .begin), time-length (p .end)))
+
+-- rule 15 on a screen that ends before line 24: at most 24 rows, each of them short, and at most 24 filler lines
+lines-least : (double : Bool) (n : ℕ) → n ≤ linesOf double (record { 0 = n }) .0
+unfolding linesOf
+lines-least true n = omega arith
+lines-least false n = omega arith
+
+module _ (f : Format) (first : Header) (ts : List Token) (place : ℕ) (e : isGood (textRule f place (first .vp) ts) ≡ true) where
+  rows-fit : (all isShort (rows (f .mode) ts) ≡ true) × (first .vp + linesOf (isDouble ts) (rowCount (rows (f .mode) ts)) .0 ≤ f .screen .end)
+  unfolding textRule rowsFit
+  rows-fit =
+      let r = and-parts _ _ (unbroken _ _ _ _ (unbroken _ _ _ _ (unbroken _ _ _ _ e .1) .1) .0) in
+      (r .0, leb-true _ (f .screen .end) (r .1))
+
+  pieces-bound : f .screen .end ≤ 24 → size (paragraphOf f (subtitleOf (f .mode) first ts) .pieces) ≤ 59900
+  unfolding subtitleOf rowCount fillers
+  pieces-bound h =
+      let s = subtitleOf (f .mode) first ts in
+      rw (pieces-are f s)
+      (omega (
+        arith,
+        rows-fit,
+        size-append (rowPieces (s .rows)) (replicate (fillersOf f s) br),
+        rows-later (s .rows),
+        later-bound (newPen (isDouble ts)) (rows (f .mode) ts) (rows-fit .0),
+        fillers-bound (fillersOf f s),
+        lines-least (isDouble ts) (length (rows (f .mode) ts)),
+      ))
+
+made-bound :
+    {Block : List ℕ → Type 0} {f : Format} → f .screen .end ≤ 24 → (s : Subtitle) → Made Block f s
+    → length (writeParagraph (paragraphOf f s)) ≤ 60000
+made-bound {f = f} h s m =
+    rw (m .made)
+    (let t = subtitleOf (f .mode) (s .first) (tokens (m .text)) in
+    omega (arith, paragraph-bound (paragraphOf f t), pieces-bound f (s .first) (tokens (m .text)) (m .place) (m .rule) h))
+
+-- the style lines: one for each look at most
+keep-bound : {A : Type 0} (p : A → Bool) (xs : List A) → length (keep p xs) ≤ length xs
+unfolding keep
+keep-bound p [] = omega arith
+keep-bound p (x ∷ xs) =
+    by-test (p x) (λ e. rw (e, keep) (omega (arith, keep-bound p xs))) (λ e. rw (e, keep) (omega (arith, keep-bound p xs)))
+
+looks-bound : (ps : List Paragraph) → length (looksUsed ps) ≤ lookCount
+unfolding looksUsed upFrom
+looks-bound ps = keep-bound (isUsed ps) (upFrom lookCount 0)
+
+channel-bound : (bit : ℕ) → length (channel bit) ≤ 2
+unfolding channel bytes
+channel-bound bit = either-bound 2 (eqb bit 0) _ _ (omega arith) (omega arith)
+
+colour-bound : (c : ℕ) → length (colourName c) ≤ 7
+unfolding colourName joined bytes
+colour-bound c = simp length-append (omega (arith, channel-bound (c % 2), channel-bound (c / 2 % 2), channel-bound (c / 4 % 2)))
+
+height-bound : (double : Bool) → length (sizeName double) ≤ 5
+unfolding sizeName bytes
+height-bound double = either-bound 5 double _ _ (omega arith) (omega arith)
+
+style-bound : (look : ℕ) → length (writeStyle look) ≤ 100
+unfolding writeStyle styleName joined bytes
+style-bound look =
+    let l = unpack look in
+    simp length-append
+    (omega (arith, digits-length 3 look, colour-bound (l .colour), colour-bound (l .background), height-bound (l .double)))
+
+-- a document: beside its paragraphs, fixed text and the style lines
+render-bound : (d : Document) → length (render d) ≤ 20000 + length (joinMap writeParagraph (d .paragraphs))
+unfolding render joined beforeRate beforeStyles beforeParagraphs afterParagraphs bytes
+render-bound d =
+    let looks = looksUsed (d .paragraphs) in
+    simp length-append
+    (omega (arith, digits-length 2 (d .rate), join-bound writeStyle 100 (every style-bound looks), looks-bound (d .paragraphs)))
+
+-- a tt:span element begins at a byte of its own
+elements-bound : (s : List ℕ) → spanElements s ≤ length s
+unfolding spanElements
+elements-bound [] = omega arith
+elements-bound (b ∷ s) =
+    by-test (startsWith (bytes "<tt:span ") (b ∷ s))
+    (λ e. rw (e, spanElements) (omega (arith, elements-bound s)))
+    (λ e. rw (e, spanElements) (omega (arith, elements-bound s)))
+
+-- an accepted file
+module _ (mode : ℕ) (file : List ℕ) (p : Progress (List Subtitle)) (c : outcome mode file ≡ accepted p) where
+  held : Held Any (formatOf mode file) (blockCount file) p
+  held = rw c at (outcome-kept Any mode file (any-blocks _))
+
+  teletext-end : formatOf mode file .screen .end ≤ 24
+  unfolding formatOf teletext
+  teletext-end = omega arith
+
+  pub subtitles-bound : length (p .gathered) ≤ 99999
+  subtitles-bound = omega (arith, held .few, tnb-bound mode file (rule-kept mode file p c))
+
+  pub paragraphs-bound : length (joinMap writeParagraph (map (paragraphOf (formatOf mode file)) (p .gathered))) ≤ 6000000000
+  paragraphs-bound =
+      omega (
+        arith,
+        subtitles-bound,
+        join-bound writeParagraph 60000 (all-map (paragraphOf (formatOf mode file)) (made-bound teletext-end) (held .made)),
+        length-map (p .gathered) (paragraphOf (formatOf mode file)),
+      )
+
+  length-bound : length (render (documentOf (formatOf mode file) (p .gathered))) ≤ 6000020000
+  unfolding documentOf
+  length-bound = omega (arith, paragraphs-bound, render-bound (documentOf (formatOf mode file) (p .gathered)))
+
+  pub spans-bound : documentSpans (map (paragraphOf (formatOf mode file)) (p .gathered)) ≤ 6000020000
+  unfolding documentOf
+  spans-bound =
+      let d = documentOf (formatOf mode file) (p .gathered) in
+      omega (arith, length-bound, elements-bound (render d), elements-are-spans d)
+
+  -- below 2 ^ 40
+  pub document-bound : length (render (documentOf (formatOf mode file) (p .gathered))) < 1099511627776
+  document-bound = omega (arith, length-bound)

@@ -1,0 +1,212 @@
+-- What holds of every cell of a text: a character that UTF-8 writes, and colours of three bits.
+-- Assumes nothing.
+use Prim.Native.Nat.{ℕ, zero, suc, _+_, _*_}
+use native.Mathlib.Omega.{arith}
+use mathlib.Core.Path.{_≡_, refl, ap}
+use mathlib.Core.Bool.{Bool, true, false}
+use mathlib.Core.List.{List, [], _∷_, _++_, map}
+use lib.Dec.{eqb, ltb}
+use lib.ListN.{getD}
+use borrow.Author.Tests.{ltb-true}
+use Rattle.meaning.specs.declared.Token.{Token}
+use Rattle.meaning.specs.declared.Token.the-variants.{Character, Control, RowEnd, Unlisted}
+use Rattle.meaning.specs.declared.Look.{Look}
+use Rattle.meaning.specs.declared.Pen.{Pen}
+use Rattle.meaning.specs.Lists.{all, joinMap}
+use Rattle.meaning.specs.Tables.{latinTable, composedTable}
+use Rattle.meaning.specs.Characters.{latin, accent, letter, composed}
+use Rattle.meaning.specs.Codes.{isControl, characterOf, codeToken, pairToken, isAccent, tokens, isRowEnd, takesCell}
+use Rattle.meaning.specs.Rows.{splitRows, breaksPaired, pairedFrom, rows}
+use Rattle.meaning.specs.Cells.{Cell, points, glyphs, cellCharacter, controlHere, controlNext, lookHere, lookNext, newPen, cellOf, penAfter, cellsOf, cellsFrom, rowStart, penAfterRow, cellRows, isBlank}
+use Rattle.meaning.specs.Spans.{foregroundOf, lookOf, uniform, spansFrom, spans}
+use Rattle.meaning.specs.Profile.{isScalar}
+use Rattle.meaning.proofs.Logic.{by-test}
+use Rattle.meaning.proofs.ListLaws.{All, all-append, all-onto, test-split}
+use Rattle.meaning.proofs.ListLaws.All.{nil, cons}
+use Rattle.meaning.proofs.LookLaws.{ThreeBits, white-bits, blend-bits}
+use Rattle.meaning.proofs.Tokens.{tokens-pair, tokens-code}
+
+-- the tables hold code points that UTF-8 writes, by one computed test
+scalar-at : (xs : List ℕ) (k : ℕ) → all isScalar xs ≡ true → isScalar (getD xs k 0) ≡ true
+scalar-at [] k e = unfold isScalar in refl
+scalar-at (x ∷ xs) zero e = test-split isScalar x xs e .0
+scalar-at (x ∷ xs) (suc k) e = scalar-at xs k (test-split isScalar x xs e .1)
+
+tables : (all isScalar latinTable ≡ true) × (all isScalar composedTable ≡ true)
+unfolding all isScalar latinTable composedTable
+tables = (refl, refl)
+
+latin-scalar : (c : ℕ) → isScalar (latin c) ≡ true
+unfolding latin
+latin-scalar c = scalar-at latinTable c (tables .0)
+
+composed-scalar : (a l : ℕ) → isScalar (composed a l) ≡ true
+unfolding composed
+composed-scalar zero l = unfold isScalar in refl
+composed-scalar (suc a) zero = unfold isScalar in refl
+composed-scalar (suc a) (suc l) = scalar-at composedTable (52 * a + l) (tables .1)
+
+abbrev Writable : Token → Type 0
+Writable (Character p) = isScalar p ≡ true
+Writable (Control c) = Unit {0}
+Writable RowEnd = Unit {0}
+Writable Unlisted = Unit {0}
+
+character-writable : (n : ℕ) → isScalar n ≡ true → Writable (characterOf n)
+unfolding characterOf
+character-writable zero h = tt
+character-writable (suc n) h = h
+
+code-writable : (c : ℕ) → Writable (codeToken c)
+unfolding codeToken
+code-writable c =
+    by-test (eqb c 138)
+    (λ e. rw (e, codeToken) tt)
+    (λ e.
+    by-test (isControl c)
+    (λ f. rw (e, f, codeToken) tt)
+    (λ f. rw (e, f, codeToken) (character-writable (latin c) (latin-scalar c))))
+
+pair-writable : (a c : ℕ) → Writable (pairToken a c)
+unfolding pairToken
+pair-writable a c = character-writable _ (composed-scalar (accent a) (letter c))
+
+tokens-writable : (cs : List ℕ) → All Writable (tokens cs)
+tokens-writable [] = unfold tokens in nil
+tokens-writable (c ∷ []) = unfold tokens in cons (code-writable c) nil
+tokens-writable (c ∷ d ∷ cs) =
+    by-test (isAccent c)
+    (λ e. rw (tokens-pair c d cs e) (cons (pair-writable c d) (tokens-writable cs)))
+    (λ e. rw (tokens-code c d cs e) (cons (code-writable c) (tokens-writable (d ∷ cs))))
+
+-- a property of all tokens holds in every row
+module _ {P : Token → Type 0} where
+  split-all : (ts : List Token) → All P ts → All (All P) (splitRows ts)
+  unfolding splitRows
+  split-all [] h = cons nil nil
+  split-all (t ∷ ts) (cons p h) =
+      by-test (isRowEnd t)
+      (λ e. rw (e, splitRows) (cons nil (split-all ts h)))
+      (λ e. rw (e, splitRows) (all-onto t p (split-all ts h)))
+
+  paired-all : (second : Bool) (ts : List Token) → All P ts → All P (pairedFrom second ts)
+  unfolding pairedFrom
+  paired-all second [] h = nil
+  paired-all true (t ∷ ts) (cons p h) =
+      by-test (isRowEnd t)
+      (λ e. rw (e, pairedFrom) (paired-all false ts h))
+      (λ e. rw (e, pairedFrom) (cons p (paired-all false ts h)))
+  paired-all false (t ∷ ts) (cons p h) =
+      by-test (isRowEnd t)
+      (λ e. rw (e, pairedFrom) (cons p (paired-all true ts h)))
+      (λ e. rw (e, pairedFrom) (cons p (paired-all false ts h)))
+
+  rows-all : (mode : ℕ) (ts : List Token) → All P ts → All (All P) (rows mode ts)
+  unfolding rows
+  rows-all mode ts h =
+      by-test (breaksPaired mode ts)
+      (λ e. rw e (split-all (pairedFrom false ts) (paired-all false ts h)))
+      (λ e. rw e (split-all ts h))
+
+here-bits : (t : Token) (l : Look) → ThreeBits l → ThreeBits (lookHere t l)
+unfolding lookHere controlHere
+here-bits (Character p) l h = h
+here-bits (Control c) l h =
+    record {
+      background =
+          by-test (eqb c 28)
+          (λ e. rw e (omega arith))
+          (λ e. by-test (eqb c 29) (λ f. rw (e, f) (h .colour)) (λ f. rw (e, f) (h .background)));
+      colour = h .colour;
+    }
+here-bits RowEnd l h = h
+here-bits Unlisted l h = h
+
+control-bits : (c : ℕ) (l : Look) → ThreeBits l → ThreeBits (controlNext c l)
+unfolding controlNext
+control-bits c l h =
+    record {
+      background = h .background;
+      colour = by-test (ltb c 8) (λ e. rw e (ltb-true c 8 e)) (λ e. rw e (h .colour));
+    }
+
+next-bits : (t : Token) (l : Look) → ThreeBits l → ThreeBits (lookNext t l)
+unfolding lookNext
+next-bits (Character p) l h = h
+next-bits (Control c) l h = control-bits c (controlHere c l) (unfold lookHere in here-bits (Control c) l h)
+next-bits RowEnd l h = h
+next-bits Unlisted l h = h
+
+pub record Sound (c : Cell) : Type 0 where
+  pub character : isScalar (c .character) ≡ true
+  pub look : ThreeBits (c .look)
+
+cell-scalar : (t : Token) → Writable t → isScalar (cellCharacter t) ≡ true
+unfolding cellCharacter isScalar
+cell-scalar (Character p) h = h
+cell-scalar (Control c) h = refl
+cell-scalar RowEnd h = refl
+cell-scalar Unlisted h = refl
+
+-- reading back the code points of cells gives their characters
+pub glyphs-points : {cs : List Cell} → All Sound cs → glyphs (joinMap points cs) ≡ map (λ (c : Cell). c .character) cs
+unfolding glyphs points joinMap
+glyphs-points nil = refl
+glyphs-points (cons {x = c} s h) = ap (λ (l : List ℕ). c .character ∷ l) (glyphs-points h)
+
+-- and they are such that UTF-8 writes
+pub points-scalar : {cs : List Cell} → All Sound cs → All (λ (p : ℕ). isScalar p ≡ true) (joinMap points cs)
+unfolding points joinMap
+points-scalar nil = nil
+points-scalar (cons s h) = cons (s .character) (points-scalar h)
+
+cell-sound : (t : Token) (p : Pen) → ThreeBits (p .look) → Writable t → All Sound (cellsOf t p)
+unfolding cellsOf cellOf
+cell-sound t p h v =
+    by-test (takesCell t) (λ e. rw e (cons (record { character = cell-scalar t v; look = here-bits t (p .look) h }) nil)) (λ e. rw e nil)
+
+cells-sound : (p : Pen) (ts : List Token) → ThreeBits (p .look) → All Writable ts → All Sound (cellsFrom p ts)
+unfolding cellsFrom
+cells-sound p [] h w = nil
+cells-sound p (t ∷ ts) h (cons v w) =
+    all-append (cell-sound t p h v) (cells-sound (penAfter t p) ts (unfold penAfter in next-bits t (p .look) h) w)
+
+start-bits : (row : List Token) (p : Pen) → ThreeBits (rowStart row p .look)
+unfolding rowStart newPen
+start-bits row p = white-bits (p .look .double)
+
+rows-of : (p : Pen) {rs : List (List Token)} → All (All Writable) rs → All (All Sound) (cellRows p rs)
+unfolding cellRows
+rows-of p nil = nil
+rows-of p (cons {x = r} w h) = cons (cells-sound (rowStart r p) r (start-bits r p) w) (rows-of (penAfterRow p r) h)
+
+-- the cells of every row of a text
+pub rows-sound : (mode : ℕ) (p : Pen) (text : List ℕ) → All (All Sound) (cellRows p (rows mode (tokens text)))
+rows-sound mode p text = rows-of p (rows-all mode (tokens text) (tokens-writable text))
+
+-- a property of all cells holds in every span
+module _ {P : Cell → Type 0} where
+  from-all : (cur cs : List Cell) → All P cur → All P cs → All (All P) (spansFrom cur cs)
+  unfolding spansFrom
+  from-all cur [] k h = cons k nil
+  from-all cur (c ∷ cs) k (cons p h) =
+      by-test (uniform (cur ++ (c ∷ [])))
+      (λ e. rw (e, spansFrom) (from-all (cur ++ (c ∷ [])) cs (all-append k (cons p nil)) h))
+      (λ e. rw (e, spansFrom) (cons k (from-all (c ∷ []) cs (cons p nil) h)))
+
+  pub spans-all : (cs : List Cell) → All P cs → All (All P) (spans cs)
+  unfolding spans
+  spans-all [] h = nil
+  spans-all (c ∷ cs) (cons p h) = from-all (c ∷ []) cs (cons p nil) h
+
+-- the look of a span
+foreground-bits : (cs : List Cell) → All Sound cs → ThreeBits (foregroundOf cs)
+unfolding foregroundOf
+foreground-bits [] h = white-bits false
+foreground-bits (c ∷ cs) (cons p h) =
+    by-test (isBlank c) (λ e. rw (e, foregroundOf) (foreground-bits cs h)) (λ e. rw (e, foregroundOf) (p .look))
+
+pub span-bits : (cs : List Cell) → All Sound cs → ThreeBits (lookOf cs)
+unfolding lookOf
+span-bits [] h = white-bits false
+span-bits (c ∷ cs) (cons p h) = blend-bits (c .look) (foregroundOf (c ∷ cs)) (p .look) (foreground-bits (c ∷ cs) (cons p h))

@@ -1,0 +1,208 @@
+-- The tt:span elements that stand in a document's bytes are its spans, whatever the document is.
+-- Assumes nothing.
+use Prim.Native.Nat.{ℕ, zero, suc, _+_, _/_, _<_}
+use native.Mathlib.Omega.{arith}
+use native.Mathlib.Nat.{zero-add}
+use mathlib.Core.Path.{_≡_, refl, sym, ap, _∙_}
+use mathlib.Core.Bool.{Bool, true, false, cond}
+use mathlib.Core.List.{List, [], _∷_, _++_, append-assoc, append-nil}
+use lib.Dec.{ltb, eqb}
+use lib.ListN.{length-append}
+use borrow.Author.Tests.{ne-eqb, eqb-false}
+use Rattle.meaning.specs.Lists.{joinMap, joined, bytes}
+use Rattle.meaning.specs.declared.Time.{Time}
+use Rattle.meaning.specs.Document.{Span, Piece, Alignment, Paragraph, Document, digits, withoutZeros, decimal, utf8, escaped, styleName, writeSpan, writePiece, writeTime, alignmentName, writeParagraph, channel, colourName, sizeName, writeStyle, looksUsed, beforeRate, beforeStyles, beforeParagraphs, afterParagraphs, render, looksOf, documentLooks, countSpans, documentSpans}
+use Rattle.meaning.specs.Document.Piece.{span, br}
+use Rattle.meaning.specs.Document.Alignment.{left, centre, right}
+use Rattle.meaning.specs.Profile.{startsWith, spanElements}
+use Rattle.meaning.proofs.Logic.{by-test}
+use Rattle.meaning.proofs.ListLaws.{All, all-append}
+use Rattle.meaning.proofs.ListLaws.All.{nil, cons}
+
+-- bytes that hold n elements, whatever follows
+record Holds (n : ℕ) (x : List ℕ) : Type 0 where
+  law : (s : List ℕ) → spanElements (x ++ s) ≡ n + spanElements s
+
+infixr 65 _&_
+_&_ : {m n : ℕ} {x y : List ℕ} → Holds m x → Holds n y → Holds (m + n) (x ++ y)
+_&_ {m} {n} {x} {y} p q =
+    record { law = λ s. ap spanElements (append-assoc x y s) ∙ p .law (y ++ s) ∙ omega (arith, q .law s) }
+
+num : {m n : ℕ} {x : List ℕ} → m ≡ n → Holds m x → Holds n x
+num e t = rw e at t
+
+nothing : Holds 0 []
+nothing = record { law = λ s. sym (zero-add _) }
+
+-- a fixed text, by computing
+fixed : (x : List ℕ) → ((s : List ℕ) → spanElements (x ++ s) ≡ spanElements s) → Holds 0 x
+fixed x h = record { law = λ s. h s ∙ sym (zero-add _) }
+
+-- bytes other than <
+abbrev Plain : ℕ → Type 0
+Plain b = 60 ≡ b → ⊥
+
+byte : (b : ℕ) → Plain b → Holds 0 (b ∷ [])
+unfolding spanElements startsWith bytes
+byte b h = record { law = λ s. rw (ne-eqb 60 b h, spanElements, startsWith) (sym (zero-add _)) }
+
+plain : {x : List ℕ} → All Plain x → Holds 0 x
+plain nil = nothing
+plain (cons h k) = byte _ h & plain k
+
+plain-digits : (k n : ℕ) → All Plain (digits k n)
+unfolding digits
+plain-digits zero n = nil
+plain-digits (suc k) n = all-append (plain-digits k (n / 10)) (cons (λ e. omega arith) nil)
+
+plain-zeros : {ds : List ℕ} → All Plain ds → All Plain (withoutZeros ds)
+unfolding withoutZeros
+plain-zeros nil = nil
+plain-zeros (cons h nil) = cons h nil
+plain-zeros (cons {x = d} h (cons {x = e} k l)) =
+    by-test (eqb d 48)
+    (λ f. rw (f, withoutZeros) (plain-zeros (cons k l)))
+    (λ f. rw (f, withoutZeros) (cons h (cons k l)))
+
+high : (b : ℕ) → 60 < b → Plain b
+high b h z = omega arith
+
+plain-utf8 : (p : ℕ) → Plain p → All Plain (utf8 p)
+unfolding utf8
+plain-utf8 p h =
+    by-test (ltb p 128)
+    (λ e. rw e (cons h nil))
+    (λ e.
+    by-test (ltb p 2048)
+    (λ f. rw (e, f) (two _ _))
+    (λ f. by-test (ltb p 65536) (λ g. rw (e, f, g) (three _ _ _)) (λ g. rw (e, f, g) (four _ _ _ _))))
+  where
+    tail : (a : ℕ) → Plain (128 + a)
+    tail a = high (128 + a) (omega arith)
+
+    two : (a b : ℕ) → All Plain ((192 + a) ∷ (128 + b) ∷ [])
+    two a b = cons (high (192 + a) (omega arith)) (cons (tail b) nil)
+
+    three : (a b c : ℕ) → All Plain ((224 + a) ∷ (128 + b) ∷ (128 + c) ∷ [])
+    three a b c = cons (high (224 + a) (omega arith)) (cons (tail b) (cons (tail c) nil))
+
+    four : (a b c d : ℕ) → All Plain ((240 + a) ∷ (128 + b) ∷ (128 + c) ∷ (128 + d) ∷ [])
+    four a b c d = cons (high (240 + a) (omega arith)) (cons (tail b) (cons (tail c) (cons (tail d) nil)))
+
+in-digits : (k n : ℕ) → Holds 0 (digits k n)
+in-digits k n = plain (plain-digits k n)
+
+in-escaped : (p : ℕ) → Holds 0 (escaped p)
+unfolding escaped spanElements startsWith bytes
+in-escaped p =
+    by-test (eqb p 38)
+    (λ e. rw e (fixed (bytes "&amp;") (λ s. refl)))
+    (λ e.
+    by-test (eqb p 60)
+    (λ f. rw (e, f) (fixed (bytes "&lt;") (λ s. refl)))
+    (λ f.
+    by-test (eqb p 62)
+    (λ g. rw (e, f, g) (fixed (bytes "&gt;") (λ s. refl)))
+    (λ g. rw (e, f, g) (plain (plain-utf8 p (λ z. eqb-false p 60 f (sym z)))))))
+
+in-each : {A : Type 0} (f : A → List ℕ) (xs : List A) → ((x : A) → Holds 0 (f x)) → Holds 0 (joinMap f xs)
+unfolding joinMap
+in-each f [] h = nothing
+in-each f (x ∷ xs) h = h x & in-each f xs h
+
+in-style-name : (look : ℕ) → Holds 0 (styleName look)
+unfolding styleName spanElements startsWith bytes
+in-style-name look = fixed (bytes "s") (λ s. refl) & in-digits 3 look
+
+opening : Holds 1 (bytes "<tt:span style=\"")
+unfolding spanElements startsWith bytes
+opening = record { law = λ s. omega arith }
+
+in-span : (s : Span) → Holds 1 (writeSpan s)
+unfolding writeSpan joined spanElements startsWith bytes
+in-span s =
+    opening & in-style-name (s .look) & fixed (bytes "\">") (λ s. refl) & in-each escaped (s .characters) in-escaped
+    & fixed (bytes "</tt:span>") (λ s. refl)
+
+in-pieces : (ps : List Piece) → Holds (countSpans ps) (joinMap writePiece ps)
+unfolding joinMap countSpans looksOf writePiece spanElements startsWith bytes
+in-pieces [] = nothing
+in-pieces (span s ∷ ps) = num (omega arith) (in-span s & in-pieces ps)
+in-pieces (br ∷ ps) = num (omega arith) (fixed (bytes "<tt:br/>") (λ s. refl) & in-pieces ps)
+
+in-time : (t : Time) → Holds 0 (writeTime t)
+unfolding writeTime joined spanElements startsWith bytes
+in-time t =
+    let colon = fixed (bytes ":") (λ s. refl) in
+    in-digits 2 (t .hours) & colon & in-digits 2 (t .minutes) & colon & in-digits 2 (t .seconds) & colon & in-digits 2 (t .frames)
+
+in-alignment : (a : Alignment) → Holds 0 (alignmentName a)
+unfolding alignmentName spanElements startsWith bytes
+in-alignment left = fixed _ (λ s. refl)
+in-alignment centre = fixed _ (λ s. refl)
+in-alignment right = fixed _ (λ s. refl)
+
+in-paragraph : (p : Paragraph) → Holds (countSpans (p .pieces)) (writeParagraph p)
+unfolding writeParagraph joined decimal spanElements startsWith bytes
+in-paragraph p =
+    num (omega arith)
+    (fixed (bytes "<tt:p xml:id=\"sub") (λ s. refl) & plain (plain-zeros (plain-digits 5 (p .number)))
+    & fixed (bytes "\" style=\"") (λ s. refl) & in-alignment (p .alignment)
+    & fixed (bytes "\" begin=\"") (λ s. refl) & in-time (p .begin) & fixed (bytes "\" end=\"") (λ s. refl) & in-time (p .end)
+    & fixed (bytes "\">") (λ s. refl) & in-pieces (p .pieces) & fixed (bytes "</tt:p>\n") (λ s. refl))
+
+in-paragraphs : (ps : List Paragraph) → Holds (documentSpans ps) (joinMap writeParagraph ps)
+unfolding joinMap documentSpans documentLooks countSpans
+in-paragraphs [] = nothing
+in-paragraphs (p ∷ ps) = num (sym (length-append (looksOf (p .pieces)) (documentLooks ps))) (in-paragraph p & in-paragraphs ps)
+
+-- one of two fixed texts
+either : (b : Bool) (x y : List ℕ) → Holds 0 x → Holds 0 y → Holds 0 (cond b x y)
+either true x y p q = p
+either false x y p q = q
+
+in-channel : (bit : ℕ) → Holds 0 (channel bit)
+unfolding channel spanElements startsWith bytes
+in-channel bit = either (eqb bit 0) _ _ (fixed (bytes "00") (λ s. refl)) (fixed (bytes "ff") (λ s. refl))
+
+in-colour : (c : ℕ) → Holds 0 (colourName c)
+unfolding colourName joined spanElements startsWith bytes
+in-colour c = fixed (bytes "#") (λ s. refl) & in-channel _ & in-channel _ & in-channel _
+
+in-size : (double : Bool) → Holds 0 (sizeName double)
+unfolding sizeName spanElements startsWith bytes
+in-size double = either double _ _ (fixed (bytes "1c 2c") (λ s. refl)) (fixed (bytes "1c 1c") (λ s. refl))
+
+in-style : (look : ℕ) → Holds 0 (writeStyle look)
+unfolding writeStyle joined spanElements startsWith bytes
+in-style look =
+    fixed (bytes "<tt:style xml:id=\"") (λ s. refl) & in-style-name look & fixed (bytes "\" tts:color=\"") (λ s. refl)
+    & in-colour _ & fixed (bytes "\" tts:backgroundColor=\"") (λ s. refl) & in-colour _
+    & fixed (bytes "\" tts:fontSize=\"") (λ s. refl) & in-size _ & fixed (bytes "\"/>\n") (λ s. refl)
+
+in-before-rate : Holds 0 beforeRate
+unfolding beforeRate spanElements startsWith bytes
+in-before-rate = fixed _ (λ s. refl)
+
+in-before-styles : Holds 0 beforeStyles
+unfolding beforeStyles spanElements startsWith bytes
+in-before-styles = fixed _ (λ s. refl)
+
+in-before-paragraphs : Holds 0 beforeParagraphs
+unfolding beforeParagraphs spanElements startsWith bytes
+in-before-paragraphs = fixed _ (λ s. refl)
+
+in-after-paragraphs : Holds 0 afterParagraphs
+unfolding afterParagraphs spanElements startsWith bytes
+in-after-paragraphs = fixed _ (λ s. refl)
+
+in-document : (d : Document) → Holds (documentSpans (d .paragraphs)) (render d)
+unfolding render joined
+in-document d =
+    num (omega arith)
+    (in-before-rate & in-digits 2 (d .rate) & in-before-styles & in-each writeStyle (looksUsed (d .paragraphs)) in-style
+    & in-before-paragraphs & in-paragraphs (d .paragraphs) & in-after-paragraphs)
+
+pub elements-are-spans : (d : Document) → spanElements (render d) ≡ documentSpans (d .paragraphs)
+unfolding spanElements
+elements-are-spans d = ap spanElements (sym (append-nil (render d))) ∙ omega (arith, in-document d .law [])

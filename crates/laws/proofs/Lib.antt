@@ -1,0 +1,17 @@
+pub mod Letters
+pub mod Fitting
+pub mod Trimming
+pub mod Fewest
+pub mod Pieces
+pub mod FewestInAll
+pub mod Elements
+pub mod Steps
+pub mod Gathering
+pub mod Walk
+pub mod CellFacts
+pub mod OwnRows
+pub mod OwnProfile
+pub mod Accepted
+pub mod Refused
+pub mod Demand3
+pub mod Bounds

@@ -1,0 +1,14 @@
+-- `is_blank` tells whether a cell of the arrays is a blank.
+-- Assumes nothing.
+use borrow.Author.Needs.{needs}
+use Rattle.meaning.specs.Cells.{isBlank}
+use Rattle.cells.specs.Arrays.{packedCell}
+use Rattle.spans.proofs.joining.is_blank.Statement.{statement}
+use Rattle.spans.proofs.joining.is_blank.Tie as tie
+
+returns : tie.Need-returns
+unfolding isBlank packedCell
+returns c = search needs
+
+pub is-blank-spec : {M : Type 1} → statement M
+is-blank-spec = tie.close (tie.spec returns)

@@ -1,0 +1,24 @@
+-- `is_joining` tells whether a cell joins a span.
+-- Assumes nothing.
+use Rattle.cells.specs.Arrays.{packedCell}
+use Rattle.spans.specs.Foregrounds.{joins}
+use borrow.Author.Needs.{needs}
+use Rattle.spans.proofs.joining.is_joining.Statement.{statement}
+use Rattle.spans.proofs.joining.is_joining.Tie as tie
+
+returns : tie.Need-returns
+unfolding joins packedCell
+returns c =
+    let b = c .before .before .before in
+    rw (
+      c .before .packed-free2 .ensures,
+      c .before .before .packed-free .ensures,
+      b .is-blank .ensures,
+      b .before .packed-shared2 .ensures,
+      b .before .before .packed-shared .ensures,
+    )
+
+pub is-joining-spec : {M : Type 1} → statement M
+is-joining-spec =
+    tie.close (tie.spec (λ c κs. search needs) (λ c κs. search needs) (λ c κs. search needs) (λ c κs. search needs) (λ c κs. search needs)
+    returns)

@@ -1,0 +1,2 @@
+pub mod Foregrounds
+pub mod Ranges

@@ -1,0 +1,64 @@
+// Which cells join a span, by the packed look of its first cell and by its foreground.
+
+ghost use mathlib.Core.Path.{_≡_};
+ghost use Rattle.meaning.specs.Looks.{pack, unpack, blend};
+ghost use Rattle.meaning.specs.Cells.{isBlank};
+ghost use Rattle.cells.specs.Arrays.{packedCell};
+ghost use Rattle.spans.specs.Foregrounds.{noForeground, foregroundWith, joins};
+use cells::BLANK;
+use meaning::Look;
+
+// What a span's cells tell of its foreground: whether they are only blanks so far, and the packed look of the first that is
+// none.
+pub(crate) struct Foreground {
+    pub blanks: bool,
+    pub look: u16,
+}
+
+pub(crate) fn is_blank(character: u16, look: u16) -> bool
+    ensures { λ r. ⌜ r ≡ isBlank (packedCell character look) ⌝ }
+{
+    character == BLANK
+}
+
+// Blanks only count as white.
+pub(crate) fn no_foreground() -> Foreground
+    ensures { λ r. ⌜ r ≡ noForeground ⌝ }
+{
+    Foreground {
+        blanks: true,
+        look: Look::WHITE as u16,
+    }
+}
+
+// A blank joins whatever its foreground, and every foreground joins where there are only blanks.
+pub(crate) fn is_joining(first: u16, fore: Foreground, character: u16, look: u16) -> bool
+    ensures { λ r. ⌜ r ≡ joins (unpack first) fore (packedCell character look) ⌝ }
+{
+    (Look::packed_shared(look) == Look::packed_shared(first))
+        & (is_blank(character, look)
+            | (fore.blanks | (Look::packed_free(look) == Look::packed_free(fore.look))))
+}
+
+// The foreground with one more cell.
+pub(crate) fn foreground_with(fore: Foreground, character: u16, look: u16) -> Foreground
+    ensures { λ r. ⌜ r ≡ foregroundWith fore character look ⌝ }
+{
+    if fore.blanks & !is_blank(character, look) {
+        Foreground {
+            blanks: false,
+            look,
+        }
+    } else {
+        fore
+    }
+}
+
+// The packed look of a span, by that of its first cell and that of its foreground.
+pub(crate) fn span_look(first: u16, fore: u16) -> u16
+    ensures { λ r. ⌜ r ≡ pack (blend (unpack first) (unpack fore)) ⌝ }
+{
+    let l = Look::unpack(first);
+    let m = Look::unpack(fore);
+    l.blend(m).pack()
+}
