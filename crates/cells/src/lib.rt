@@ -2,7 +2,7 @@
 
 ghost use mathlib.Core.Path.{_≡_};
 ghost use mathlib.Core.List.{map};
-ghost use Prim.Native.Nat.{_+_, _<_};
+ghost use Prim.Native.Nat.{_+_, _<_, _^_};
 ghost use lib.ListN.{length, set, replicate};
 ghost use Rattle.meaning.specs.Looks.{pack};
 ghost use Rattle.meaning.specs.Cells.{cellsOf};
@@ -71,7 +71,7 @@ fn put_looks(looks: &mut [u16], k: usize, n: usize, look: Look)
 
 // The cell of a token, if it takes one, and how many cells there are then.
 fn put_cell(characters: &mut [u16], looks: &mut [u16], k: usize, token: Token, pen: Pen) -> usize
-    requires { ⌜ k < 18446744073709551615 ⌝ }
+    requires { ⌜ k + 1 < 2 ^ 64 ⌝ }
     ensures { λ r. ⌜ (now (characters .exit) ≡ stored (now (characters .entry)) k (map character (cellsOf token pen))) × (now (looks .exit) ≡ stored (now (looks .entry)) k (map packedLook (cellsOf token pen))) × (r ≡ k + length (cellsOf token pen)) ⌝ }
 {
     let cell = drawing::cell_of(token, pen);

@@ -1,6 +1,6 @@
 -- Pass one over all blocks, after k of them.
 -- Assumes nothing.
-use Prim.Native.Nat.{ℕ, _+_, _≤_, _<_}
+use Prim.Native.Nat.{ℕ, _+_, _≤_, _<_, _^_}
 use native.Mathlib.Omega.{arith}
 use mathlib.Core.Path.{_≡_, refl, sym, ap, _∙_}
 use mathlib.Core.Bool.{Bool, true, false}
@@ -63,7 +63,7 @@ module _ (f : Format) (rule : OpenSet → Refusal) (file : List ℕ) (n : ℕ) (
       within : WithinIf {A = Page} k (accepted (record { assembly = assemblyOf (w .sets) text; counts = w .counts; gathered = record { out = out; marks = marks; tally = w .tally } }))
       within = rw (sym (l .stands), standing-good w text out marks e) at (walk-within f rule (laySet f) page file k)
 
-      pub passed-ready : (b : List ℕ) → n ≤ 18446744073709551615 → k < n → (hasRoom b (w .sets) text ≡ true) × (total (w .counts) < 18446744073709551615)
+      pub passed-ready : (b : List ℕ) → n < 2 ^ 64 → k < n → (hasRoom b (w .sets) text ≡ true) × (total (w .counts) + 1 < 2 ^ 64)
       passed-ready b m h = (room-left b (w .sets) text (l .long) (within .fits), omega (arith, within .counts))
 
     pub passed-more :

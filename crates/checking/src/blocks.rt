@@ -3,7 +3,7 @@
 ghost use mathlib.Core.Path.{_≡_};
 ghost use mathlib.Core.Bool.{Bool, true};
 ghost use mathlib.Core.List.{List};
-ghost use Prim.Native.Nat.{ℕ, _<_};
+ghost use Prim.Native.Nat.{ℕ, _+_, _<_, _^_};
 ghost use Rattle.meaning.specs.Refusals.{isGood};
 ghost use Rattle.meaning.specs.Walk.{total, counted, setRule, step, finish, walk};
 ghost use Rattle.sets.specs.Assembling.{hasRoom};
@@ -75,7 +75,7 @@ impl Pass {
 
 // One block more, where a set is open or not.
 fn counted(c: Counts, in_set: bool, h: Header) -> Counts
-    requires { ⌜ total c < 18446744073709551615 ⌝ }
+    requires { ⌜ total c + 1 < 2 ^ 64 ⌝ }
     ensures { λ r. ⌜ r ≡ counted in_set h c ⌝ }
 {
     let mut r = c;
@@ -102,7 +102,7 @@ struct Taken {
 }
 
 fn take_block(f: Format, place: u64, bytes: &[u8], text: &mut [u8], w: Pass) -> Taken
-    requires { ⌜ (hasRoom (now bytes) (w .sets) (now text) ≡ true) × (total (w .counts) < 18446744073709551615) ⌝ }
+    requires { ⌜ (hasRoom (now bytes) (w .sets) (now text) ≡ true) × (total (w .counts) + 1 < 2 ^ 64) ⌝ }
     ensures { λ r. ⌜ TakenBlock f place (now (bytes .entry)) w (now (text .entry)) (now (text .exit)) r ⌝ }
 {
     let sets = w.sets;
@@ -121,7 +121,7 @@ fn check_block(
     marks: &mut [bool],
     w: Pass,
 ) -> Pass
-    requires { ⌜ (isGood (w .refusal) ≡ true) × (hasRoom (now bytes) (w .sets) (now text) ≡ true) × (total (w .counts) < 18446744073709551615) ⌝ }
+    requires { ⌜ (isGood (w .refusal) ≡ true) × (hasRoom (now bytes) (w .sets) (now text) ≡ true) × (total (w .counts) + 1 < 2 ^ 64) ⌝ }
     ensures { λ r. ⌜ standing r (now (text .exit)) (now (out .exit)) (now (marks .exit)) ≡ step f (setRule f) (laySet f) place (standing w (now (text .entry)) (now (out .entry)) (now (marks .entry))) (now (bytes .entry)) ⌝ }
 {
     let taken = take_block(f, place, bytes, text, w);

@@ -15,7 +15,7 @@ use Rattle.meaning.specs.Lists.{all, keep, joinMap, joined, upFrom, bytes, fiel
 use Rattle.meaning.specs.Looks.{lookCount, pack, unpack}
 use Rattle.meaning.specs.Refusals.{isGood}
 use Rattle.meaning.specs.Codes.{tokens, takesCell}
-use Rattle.meaning.specs.Rows.{isDouble, rows, linesOf, rowCount, isShort, rowsFit, textRule}
+use Rattle.meaning.specs.Rows.{isDouble, rows, linesOf, rowCount, rowLimit, isShort, rowsFit, textRule}
 use Rattle.meaning.specs.Cells.{Cell, points, newPen, penAfter, cellsOf, cellsFrom, rowStart, cellsOfRow, penAfterRow, cellRows, isBlankOnBlack, trimFront, beforeTrimmed, trimBack, shown}
 use Rattle.meaning.specs.Spans.{lookOf, uniform, spansFrom, spans}
 use Rattle.meaning.specs.Gsi.{teletext, formatOf, blockCount, isDigit, valueFrom, tnb, fileRule}
@@ -188,7 +188,7 @@ row-bound p r e =
     let cs = cellsOfRow p r in
     omega (
       arith,
-      leb-true (length (keep takesCell r)) 64 e,
+      leb-true (length (keep takesCell r)) rowLimit e,
       cells-length (rowStart r p) r,
       front-bound cs,
       back-bound (trimFront cs),

@@ -50,10 +50,6 @@ pub blend-bits : (l m : Look) → ThreeBits l → ThreeBits m → ThreeBits (ble
 unfolding blend
 blend-bits l m h k = record { background = h .background; colour = k .colour }
 
-pub unpacked-white : unpack 7 ≡ whiteOnBlack false
-unfolding unpack whiteOnBlack
-unpacked-white = refl
-
 pub pack-small : (l : Look) → ThreeBits l → pack l < lookCount
 unfolding pack
 pack-small l h =

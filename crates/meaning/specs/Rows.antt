@@ -67,9 +67,12 @@ linesOf double n = record { 0 = cond double (2 * n .0) (n .0) }
 unfoldable pub rowCount : {A : Type 0} → List A → Rows
 rowCount rs = record { 0 = length rs }
 
--- a row has at most 64 cells, controls included
+-- the most cells of a row, controls included
+abbrev pub rowLimit : ℕ
+rowLimit = 64
+
 unfoldable pub isShort : List Token → Bool
-isShort r = leb (length (keep takesCell r)) 64
+isShort r = leb (length (keep takesCell r)) rowLimit
 
 -- rule 15: all rows are short, and the lines covered, from line VP on, end before the screen does
 unfoldable pub rowsFit : Format → ℕ → List Token → Bool

@@ -204,6 +204,9 @@ pub struct Rows(pub u32);
 pub struct Lines(pub u64);
 
 impl Rows {
+    // The most cells of a row.
+    pub const LONGEST: usize = 64;
+
     // The lines that the rows cover: a double row covers two.
     pub fn lines(self, double: bool) -> Lines
         ensures { λ r. ⌜ r ≡ linesOf double self ⌝ }

@@ -21,7 +21,7 @@ use Rattle.rows.specs.declared.RowScan.{RowScan}
 use Rattle.rows.specs.declared.TextFacts.{TextFacts}
 use Rattle.rows.specs.declared.TextScan.{TextScan}
 use Rattle.rows.specs.FirstRow.{firstRow, rowsOf, rowsAfter}
-use Rattle.rows.specs.Scanning.{factsOfRow, factsOfRows, ruleOf}
+use Rattle.rows.specs.Scanning.{countLimit, factsOfRow, factsOfRows, ruleOf}
 use Rattle.rows.specs.Scanned.{Scanned, TextScanned}
 use Rattle.rows.proofs.Laws.{split-end, split-more, rows-first, double-first, rows-are}
 
@@ -80,23 +80,23 @@ later-height paired ts =
     rw (e, rows-first paired ts)
     (ap not (rw (sym (double-first ts) ∙ e) at (sym (any-cons (any isDoubleHeight) (firstRow ts) (rowsAfter paired ts))))))
 
--- the lines covered, with the rows counted up to 256
-lines-capped : (end vp : ℕ) → end < 256 → (double : Bool) (n : ℕ) → leb (vp + linesOf double (record { 0 = min n 256 }) .0) end ≡ leb (vp + linesOf double (record { 0 = n }) .0) end
+-- the lines covered, with the rows counted up to a limit
+lines-capped : (end vp : ℕ) → end < countLimit → (double : Bool) (n : ℕ) → leb (vp + linesOf double (record { 0 = min n countLimit }) .0) end ≡ leb (vp + linesOf double (record { 0 = n }) .0) end
 unfolding linesOf
 lines-capped end vp h double n =
     by-test (leb (vp + linesOf double (record { 0 = n }) .0) end)
     (λ e. rw e (le-leb _ end (low double (leb-true _ end e))))
     (λ e. rw e (lt-leb _ end (high double (leb-false _ end e))))
   where
-    low : (d : Bool) → vp + linesOf d (record { 0 = n }) .0 ≤ end → vp + linesOf d (record { 0 = min n 256 }) .0 ≤ end
+    low : (d : Bool) → vp + linesOf d (record { 0 = n }) .0 ≤ end → vp + linesOf d (record { 0 = min n countLimit }) .0 ≤ end
     low true k = omega arith
     low false k = omega arith
 
-    high : (d : Bool) → end < vp + linesOf d (record { 0 = n }) .0 → end < vp + linesOf d (record { 0 = min n 256 }) .0
+    high : (d : Bool) → end < vp + linesOf d (record { 0 = n }) .0 → end < vp + linesOf d (record { 0 = min n countLimit }) .0
     high true k = omega arith
     high false k = omega arith
 
-module _ (f : Format) (place vp : ℕ) (low : f .screen .end < 256) (ts : List Token) where
+module _ (f : Format) (place vp : ℕ) (low : f .screen .end < countLimit) (ts : List Token) where
   abbrev facts : TextFacts
   facts = factsOfRows (rowsOf (breaksPaired (f .mode) ts) ts)
 
@@ -119,7 +119,7 @@ double-scanned {s} k = ap (λ (f : RowFacts). f .height) (k .facts) ∙ sym (dou
 
 -- what the two scans tell is the rule
 pub rule-scanned :
-    {s : List ℕ} (f : Format) (place vp : ℕ) {first : RowScan} {scan : TextScan} → f .screen .end < 256 → Scanned s 0 first
+    {s : List ℕ} (f : Format) (place vp : ℕ) {first : RowScan} {scan : TextScan} → f .screen .end < countLimit → Scanned s 0 first
     → TextScanned s (eqb (f .mode) 2 && first .facts .height) scan
     → ruleOf (scan .facts) (first .facts .height) (scan .even) f place vp ≡ textRule f place vp (tokens s)
 unfolding breaksPaired

@@ -13,11 +13,11 @@ use Rattle.meaning.specs.declared.Token.{Token}
 use Rattle.meaning.specs.declared.Token.the-variants.{Character}
 use Rattle.meaning.specs.Lists.{all, any, keep}
 use Rattle.meaning.specs.Codes.{isListed, isCharacter, takesCell, isDoubleHeight}
-use Rattle.meaning.specs.Rows.{heightFirst, isShort}
+use Rattle.meaning.specs.Rows.{heightFirst, rowLimit, isShort}
 use Rattle.meaning.proofs.Logic.{by-test}
 use Rattle.meaning.proofs.ListLaws.{any-cons, all-end, any-end}
 use Rattle.rows.specs.declared.RowFacts.{RowFacts}
-use Rattle.rows.specs.Scanning.{factsOfRow, withToken, withCharacters, factsOfRows, withRow}
+use Rattle.rows.specs.Scanning.{countLimit, factsOfRow, withToken, withCharacters, factsOfRows, withRow}
 
 -- a test below its limit does not tell a count from a capped one
 capped : (limit n k : ℕ) → k < limit → leb (min n limit) k ≡ leb n k
@@ -57,20 +57,20 @@ height-end (u ∷ ts) t =
 pub with-token : (ts : List Token) (t : Token) → factsOfRow (ts ++ (t ∷ [])) ≡ withToken (factsOfRow ts) t
 unfolding factsOfRow withToken
 with-token ts t =
-    let cells : min (length (keep takesCell (ts ++ (t ∷ [])))) 65 ≡ cond (takesCell t) (min (min (length (keep takesCell ts)) 65 + 1) 65) (min (length (keep takesCell ts)) 65) =
+    let cells : min (length (keep takesCell (ts ++ (t ∷ [])))) countLimit ≡ cond (takesCell t) (min (min (length (keep takesCell ts)) countLimit + 1) countLimit) (min (length (keep takesCell ts)) countLimit) =
     by-test (takesCell t) (λ e. rw (kept-end t ts, e) (omega arith)) (λ e. rw (kept-end t ts, e)) in
     rw (cells, all-end isListed ts t, any-end isDoubleHeight ts t, any-end isCharacter ts t, height-end ts t)
 
 more-characters : (f : RowFacts) (c n : ℕ) → withCharacters (withToken f (Character c)) n ≡ withCharacters f (suc n)
 unfolding withCharacters withToken isListed isCharacter takesCell isDoubleHeight
 more-characters f c n =
-    let cells : min (min (f .cells + 1) 65 + n) 65 ≡ min (f .cells + suc n) 65 = omega arith in
+    let cells : min (min (f .cells + 1) countLimit + n) countLimit ≡ min (f .cells + suc n) countLimit = omega arith in
     rw (cells, lt-ltb 0 (suc n) (omega arith), or-true (f .character))
 
 pub with-characters : (ts : List Token) (cs : List ℕ) → factsOfRow (ts ++ map Character cs) ≡ withCharacters (factsOfRow ts) (length cs)
 with-characters ts [] =
     unfold factsOfRow withCharacters in
-    let cells : min (min (length (keep takesCell ts)) 65 + 0) 65 ≡ min (length (keep takesCell ts)) 65 = omega arith in
+    let cells : min (min (length (keep takesCell ts)) countLimit + 0) countLimit ≡ min (length (keep takesCell ts)) countLimit = omega arith in
     rw (append-nil ts, cells, or-false (any isCharacter ts))
 with-characters ts (c ∷ cs) =
     ap factsOfRow (sym (append-snoc ts (Character c) (map Character cs))) ∙ with-characters (ts ++ (Character c ∷ [])) cs
@@ -79,13 +79,13 @@ with-characters ts (c ∷ cs) =
 pub with-row : (rs : List (List Token)) (r : List Token) → factsOfRows (rs ++ (r ∷ [])) ≡ withRow (factsOfRows rs) (factsOfRow r)
 unfolding factsOfRows factsOfRow withRow isShort
 with-row rs r =
-    let rows : min (length rs + 1) 256 ≡ min (min (length rs) 256 + 1) 256 = omega arith in
+    let rows : min (length rs + 1) countLimit ≡ min (min (length rs) countLimit + 1) countLimit = omega arith in
     rw (
       all-end (all isListed) rs r,
       any-end (any isDoubleHeight) rs r,
       all-end heightFirst rs r,
       all-end isShort rs r,
       length-append rs (r ∷ []),
-      capped 65 (length (keep takesCell r)) 64 (omega arith),
+      capped countLimit (length (keep takesCell r)) rowLimit (omega arith),
       rows,
     )

@@ -11,15 +11,19 @@ use Rattle.meaning.specs.declared.Format.{Format}
 use Rattle.meaning.specs.Lists.{all, any, keep}
 use Rattle.meaning.specs.Refusals.{firstBroken}
 use Rattle.meaning.specs.Codes.{isListed, isCharacter, takesCell, isDoubleHeight}
-use Rattle.meaning.specs.Rows.{heightFirst, isShort, linesOf}
+use Rattle.meaning.specs.Rows.{heightFirst, rowLimit, isShort, linesOf}
 use Rattle.rows.specs.declared.RowFacts.{RowFacts}
 use Rattle.rows.specs.declared.TextFacts.{TextFacts}
 
--- the facts of a row; its cells are counted up to 65: beyond that no rule can tell counts apart
+-- Cells and rows are counted up to it. It is above every limit that a rule sets, so no rule can tell such counts apart.
+abbrev pub countLimit : ℕ
+countLimit = 256
+
+-- the facts of a row
 unfoldable pub factsOfRow : List Token → RowFacts
 factsOfRow ts =
     record {
-      cells = min (length (keep takesCell ts)) 65;
+      cells = min (length (keep takesCell ts)) countLimit;
       listed = all isListed ts;
       height = any isDoubleHeight ts;
       character = any isCharacter ts;
@@ -30,7 +34,7 @@ factsOfRow ts =
 unfoldable pub withToken : RowFacts → Token → RowFacts
 withToken f t =
     record {
-      cells = cond (takesCell t) (min (f .cells + 1) 65) (f .cells);
+      cells = cond (takesCell t) (min (f .cells + 1) countLimit) (f .cells);
       listed = isListed t && f .listed;
       height = isDoubleHeight t || f .height;
       character = isCharacter t || f .character;
@@ -41,14 +45,14 @@ withToken f t =
 unfoldable pub withCharacters : RowFacts → ℕ → RowFacts
 withCharacters f n =
     record {
-      cells = min (f .cells + n) 65;
+      cells = min (f .cells + n) countLimit;
       listed = f .listed;
       height = f .height;
       character = f .character || ltb 0 n;
       ordered = f .ordered;
     }
 
--- the facts of all rows, which are counted up to 256
+-- the facts of all rows
 unfoldable pub factsOfRows : List (List Token) → TextFacts
 factsOfRows rs =
     record {
@@ -56,7 +60,7 @@ factsOfRows rs =
       height = any (any isDoubleHeight) rs;
       ordered = all heightFirst rs;
       short = all isShort rs;
-      rows = min (length rs) 256;
+      rows = min (length rs) countLimit;
     }
 
 -- one row more
@@ -66,8 +70,8 @@ withRow a f =
       listed = f .listed && a .listed;
       height = f .height || a .height;
       ordered = f .ordered && a .ordered;
-      short = leb (f .cells) 64 && a .short;
-      rows = min (a .rows + 1) 256;
+      short = leb (f .cells) rowLimit && a .short;
+      rows = min (a .rows + 1) countLimit;
     }
 
 -- the first of the rules 13 to 15 that the facts of a text break

@@ -5,14 +5,14 @@ ghost use mathlib.Core.Path.{_≡_};
 ghost use mathlib.Core.List.{[]};
 ghost use Rattle.meaning.specs.Codes.{tokens, isRowEnd, isDoubleHeight};
 ghost use Rattle.meaning.specs.Rows.{isDouble, textRule};
-ghost use Rattle.rows.specs.Scanning.{factsOfRow, withToken, withCharacters, factsOfRows, withRow, ruleOf};
+ghost use Rattle.rows.specs.Scanning.{countLimit, factsOfRow, withToken, withCharacters, factsOfRows, withRow, ruleOf};
 ghost use Rattle.rows.specs.Scanned.{Scanned, nextRowAt, nextRow, TextScanned};
 use meaning::Format;
 use meaning::Refusal;
 use meaning::Rows;
 use meaning::Token;
 
-// What is known of a row: its cells, counted up to 65; whether all its codes are listed; whether 0Dh stands in it, and a
+// What is known of a row: its cells, counted up to a limit; whether all its codes are listed; whether 0Dh stands in it, and a
 // character; and whether no 0Dh stands after a character.
 struct RowFacts {
     cells: u32,
@@ -29,7 +29,7 @@ struct RowScan {
     next: usize,
 }
 
-// What is known of all rows; they are counted up to 256.
+// What is known of all rows, which are counted up to the same limit.
 struct TextFacts {
     listed: bool,
     height: bool,
@@ -38,15 +38,18 @@ struct TextFacts {
     rows: u32,
 }
 
-// The sum, up to a limit: beyond it no rule can tell counts apart.
-fn sum_up_to(limit: u32, n: u32, more: usize) -> u32
-    ensures { λ r. ⌜ r ≡ min (n + more) limit ⌝ }
+// Above every limit that a rule sets: no rule can tell counts beyond it apart.
+const COUNT_LIMIT: u32 = 256;
+
+// A count of cells or rows with some more, up to the limit.
+pub fn counted(n: u32, more: usize) -> u32
+    ensures { λ r. ⌜ r ≡ min (n + more) countLimit ⌝ }
 {
-    if limit <= n {
-        return limit;
+    if COUNT_LIMIT <= n {
+        return COUNT_LIMIT;
     }
-    if (limit - n) as usize <= more {
-        return limit;
+    if (COUNT_LIMIT - n) as usize <= more {
+        return COUNT_LIMIT;
     }
     n + more as u32
 }
@@ -90,7 +93,7 @@ impl RowFacts {
         ensures { λ r. ⌜ r ≡ withToken self t ⌝ }
     {
         let mut f = self;
-        f.cells = sum_up_to(65, self.cells, 1);
+        f.cells = counted(self.cells, 1);
         match t {
             Token::Character(_) => {
                 f.character = true;
@@ -116,7 +119,7 @@ impl RowFacts {
         ensures { λ r. ⌜ r ≡ withCharacters self n ⌝ }
     {
         let mut f = self;
-        f.cells = sum_up_to(65, self.cells, n);
+        f.cells = counted(self.cells, n);
         f.character = self.character | (0 < n);
         f
     }
@@ -142,8 +145,8 @@ impl TextFacts {
             listed: f.listed & self.listed,
             height: f.height | self.height,
             ordered: f.ordered & self.ordered,
-            short: (f.cells <= 64) & self.short,
-            rows: sum_up_to(256, self.rows, 1),
+            short: (f.cells as usize <= Rows::LONGEST) & self.short,
+            rows: counted(self.rows, 1),
         }
     }
 }

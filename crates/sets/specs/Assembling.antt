@@ -1,6 +1,6 @@
 -- What the state of the assembly stands for, with the text buffer, and the step that a block makes.
 -- Assumes nothing.
-use Prim.Native.Nat.{ℕ, _+_}
+use Prim.Native.Nat.{ℕ, _+_, _*_}
 use mathlib.Core.Bool.{Bool, cond, not, _&&_, _||_}
 use mathlib.Core.List.{List}
 use mathlib.Core.Option.{Option, none, some}
@@ -20,7 +20,7 @@ use Rattle.sets.specs.declared.Step.the-variants.{NoRoom, Broken, Pendin
 
 -- the longest text: 241 blocks of 112 bytes
 abbrev pub textRoom : ℕ
-textRoom = 26992
+textRoom = 241 * 112
 
 -- a set with its text
 unfoldable pub setWith : Set → List ℕ → OpenSet

@@ -33,7 +33,7 @@ pub struct Sets {
 
 impl Sets {
     // The longest text: 241 blocks of 112 bytes.
-    pub const ROOM: usize = 26992;
+    pub const ROOM: usize = 241 * 112;
 
     // Before the first block.
     pub const NONE: Sets = Sets {

@@ -8,13 +8,13 @@ use lib.Dec.{eqb}
 use borrow.Author.Tests.{eq-eqb, eqb-true, not-true, not-false}
 use Rattle.meaning.specs.declared.Look.{Look}
 use Rattle.meaning.specs.Lists.{all}
-use Rattle.meaning.specs.Looks.{unpack, shared, free, blend}
+use Rattle.meaning.specs.Looks.{whiteOnBlack, pack, unpack, shared, free, blend}
 use Rattle.meaning.specs.Cells.{Cell, isBlank}
 use Rattle.meaning.specs.Spans.{fits, foregroundOf, lookOf, uniform, spansFrom, spans}
 use Rattle.meaning.proofs.Logic.{by-test, false-not-true, and-parts, and-true as both-true, or-true-right}
 use Rattle.meaning.proofs.ListLaws.{All, all-cons, all-end, test-nil, test-split}
 use Rattle.meaning.proofs.ListLaws.All.{nil, cons}
-use Rattle.meaning.proofs.LookLaws.{unpacked-white}
+use Rattle.meaning.proofs.LookLaws.{white-bits, unpack-pack}
 use Rattle.laws.proofs.Fitting.{Fits, Blank, all-say, all-fit, refit-blank, one-uniform, look-shared, look-free}
 use Rattle.cells.specs.Arrays.{packedCell}
 use Rattle.spans.specs.declared.joining.Foreground.{Foreground}
@@ -47,7 +47,7 @@ pub record IsForeground (fore : Foreground) (cs : List Cell) : Type 0 where
 
 foreground-none : IsForeground noForeground []
 unfolding noForeground foregroundOf
-foreground-none = record { blanks = sym (test-nil isBlank); look = unpacked-white }
+foreground-none = record { blanks = sym (test-nil isBlank); look = unpack-pack (whiteOnBlack false) (white-bits false) }
 
 -- one cell more settles it, or leaves it
 foreground-more : (fore : Foreground) (cs : List Cell) (p n : ℕ) → IsForeground fore cs → IsForeground (foregroundWith fore p n) (cs ++ (packedCell p n ∷ []))

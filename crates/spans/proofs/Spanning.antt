@@ -28,9 +28,9 @@ module _ (characters looks : List ℕ) (start e : ℕ) where
       rw (f, n, to-first characters looks start e h, to-none characters looks (start + 1) (start + 1) (omega arith))
       (grown-one (getD characters start 0) (getD looks start 0) (cellsTo characters looks (start + 1) e))
 
-  pub no-span : e ≤ start → record { end = start; look = 7 } ≡ spanAt start (cellsTo characters looks start e)
-  unfolding spanAt firstSpan spans lookOf pack whiteOnBlack
-  no-span h = rw (to-none characters looks start e h, add-zero)
+  pub no-span : {white : ℕ} → white ≡ pack (whiteOnBlack false) → e ≤ start → record { end = start; look = white } ≡ spanAt start (cellsTo characters looks start e)
+  unfolding spanAt firstSpan spans lookOf
+  no-span w h = rw (w, to-none characters looks start e h, add-zero)
 
   module _ {i : ℕ} {fore : Foreground} (h : start < i) (g : GrownTo i fore) where
     pub to-more : i < e → joins (cellAt characters looks start .look) fore (cellAt characters looks i) ≡ true → GrownTo (i + 1) (foregroundWith fore (getD characters i 0) (getD looks i 0))

@@ -4,14 +4,14 @@ use Prim.Native.Nat.{ℕ}
 use mathlib.Core.Bool.{Bool, true, false, cond, not, _&&_, _||_}
 use lib.Dec.{eqb}
 use Rattle.meaning.specs.declared.Look.{Look}
-use Rattle.meaning.specs.Looks.{unpack, shared, free}
+use Rattle.meaning.specs.Looks.{whiteOnBlack, pack, unpack, shared, free}
 use Rattle.meaning.specs.Cells.{Cell, isBlank}
 use Rattle.cells.specs.Arrays.{packedCell}
 use Rattle.spans.specs.declared.joining.Foreground.{Foreground}
 
--- before the first cell: white
+-- before the first cell: white on black
 unfoldable pub noForeground : Foreground
-noForeground = record { blanks = true; look = 7 }
+noForeground = record { blanks = true; look = pack (whiteOnBlack false) }
 
 -- the foreground with one more cell, by what is kept of it: the first that is no blank settles it
 unfoldable pub foregroundWith : Foreground → ℕ → ℕ → Foreground

@@ -21,13 +21,13 @@ pub(crate) fn is_blank(character: u16, look: u16) -> bool
     character == BLANK
 }
 
-// Blanks only count as white.
+// Blanks only count as white on black.
 pub(crate) fn no_foreground() -> Foreground
     ensures { λ r. ⌜ r ≡ noForeground ⌝ }
 {
     Foreground {
         blanks: true,
-        look: Look::WHITE as u16,
+        look: Look::WHITE_ON_BLACK.pack(),
     }
 }
 

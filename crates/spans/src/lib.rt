@@ -120,7 +120,7 @@ pub fn span_at(characters: &[u16], looks: &[u16], start: usize, end: usize) -> S
     if end <= start {
         return SpanRead {
             end: start,
-            look: Look::WHITE as u16,
+            look: Look::WHITE_ON_BLACK.pack(),
         };
     }
     span_from(characters, looks, start, end)

@@ -15,7 +15,7 @@ use Rattle.meaning.specs.declared.Token.{Token}
 use Rattle.meaning.specs.Lists.{all, keep, joinMap}
 use Rattle.meaning.specs.Refusals.{isGood}
 use Rattle.meaning.specs.Codes.{tokens, takesCell}
-use Rattle.meaning.specs.Rows.{isDouble, breaksPaired, rows, linesOf, rowCount, isShort, rowsFit, textRule}
+use Rattle.meaning.specs.Rows.{isDouble, breaksPaired, rows, linesOf, rowCount, rowLimit, isShort, rowsFit, textRule}
 use Rattle.meaning.specs.declared.Pen.{Pen}
 use Rattle.meaning.specs.Cells.{Cell, newPen, rowStart, cellsOfRow, penAfterRow, cellRows}
 use Rattle.meaning.specs.Document.{writePiece}
@@ -27,14 +27,15 @@ use Rattle.meaning.proofs.ListLaws.{test-split}
 use Rattle.meaning.proofs.RefusalLaws.{unbroken}
 use Rattle.output.specs.Output.{Wrote}
 use Rattle.rows.specs.FirstRow.{rowsOf}
+use Rattle.rows.specs.Scanning.{countLimit}
 use Rattle.rows.proofs.Laws.{rows-are}
 use Rattle.text.specs.declared.Tally.{Tally}
 use Rattle.text.specs.declared.RowsLaid.{RowsLaid}
-use Rattle.text.specs.Laid.{cut64, contentOf, PiecesLaid, RowsDone}
+use Rattle.text.specs.Laid.{cutRow, contentOf, PiecesLaid, RowsDone}
 use Rattle.text.proofs.Laws.{then-breaks}
 
--- rows beyond 256 leave no filler line
-fillers-capped : (end vp : ℕ) → end < 256 → (double : Bool) (n : ℕ) → fillers end vp (linesOf double (record { 0 = min n 256 })) .0 ≡ fillers end vp (linesOf double (record { 0 = n })) .0
+-- rows beyond the limit leave no filler line
+fillers-capped : (end vp : ℕ) → end < countLimit → (double : Bool) (n : ℕ) → fillers end vp (linesOf double (record { 0 = min n countLimit })) .0 ≡ fillers end vp (linesOf double (record { 0 = n })) .0
 unfolding fillers linesOf
 fillers-capped end vp h true n = omega arith
 fillers-capped end vp h false n = omega arith
@@ -46,7 +47,7 @@ rows-length p (r ∷ rs) = ap suc (rows-length (penAfterRow p r) rs)
 
 pub content-laid :
     {text : List ℕ} (f : Format) (vp : ℕ) {double : Bool} {buf b1 b2 : List ℕ} {on on′ : List Bool} {t : Tally} {l : RowsLaid} {lines : Lines} {n q : ℕ}
-    {pen : Pen} → f .screen .end < 256 → double ≡ isDouble (tokens text) → pen ≡ newPen double → RowsDone text pen (eqb (f .mode) 2 && double) buf on t b1 on′ l
+    {pen : Pen} → f .screen .end < countLimit → double ≡ isDouble (tokens text) → pen ≡ newPen double → RowsDone text pen (eqb (f .mode) 2 && double) buf on t b1 on′ l
     → lines ≡ linesOf double (record { 0 = l .rows }) → n ≡ fillers (f .screen .end) vp lines .0 → Wrote b1 (l .tally .at) (joinMap writePiece (replicate n br)) b2 q
     → PiecesLaid buf on t (contentOf f vp text) b2 on′ (record { at = q; spans = l .tally .spans })
 unfolding contentOf pieces rowCount breaksPaired
@@ -54,15 +55,15 @@ content-laid {text} f vp {double} {l = l} {n = n} short e h d g k p =
     let ts = tokens text in
     let rs = rowsOf (eqb (f .mode) 2 && double) ts in
     let cs = cellRows (newPen double) rs in
-    let m : n ≡ fillers (f .screen .end) vp (linesOf double (record { 0 = length (map cut64 cs) })) .0 =
-    k ∙ rw (g, d .rows, length-map cs cut64, rows-length (newPen double) rs) (fillers-capped (f .screen .end) vp short double (length rs)) in
-    rw (rows-are (f .mode) ts, ← e, ← m) (then-breaks (rowPieces (map cut64 cs)) n (rw h at (d .laid)) p)
+    let m : n ≡ fillers (f .screen .end) vp (linesOf double (record { 0 = length (map cutRow cs) })) .0 =
+    k ∙ rw (g, d .rows, length-map cs cutRow, rows-length (newPen double) rs) (fillers-capped (f .screen .end) vp short double (length rs)) in
+    rw (rows-are (f .mode) ts, ← e, ← m) (then-breaks (rowPieces (map cutRow cs)) n (rw h at (d .laid)) p)
 
-uncut : (p : Pen) (r : List Token) → isShort r ≡ true → cut64 (cellsOfRow p r) ≡ cellsOfRow p r
-unfolding cut64 isShort
-uncut p r e = take-all 64 (cellsOfRow p r) (omega (arith, cells-length (rowStart r p) r, leb-true (length (keep takesCell r)) 64 e))
+uncut : (p : Pen) (r : List Token) → isShort r ≡ true → cutRow (cellsOfRow p r) ≡ cellsOfRow p r
+unfolding cutRow isShort
+uncut p r e = take-all rowLimit (cellsOfRow p r) (omega (arith, cells-length (rowStart r p) r, leb-true (length (keep takesCell r)) rowLimit e))
 
-uncut-rows : (p : Pen) (rs : List (List Token)) → all isShort rs ≡ true → map cut64 (cellRows p rs) ≡ cellRows p rs
+uncut-rows : (p : Pen) (rs : List (List Token)) → all isShort rs ≡ true → map cutRow (cellRows p rs) ≡ cellRows p rs
 unfolding cellRows
 uncut-rows p [] e = refl
 uncut-rows p (r ∷ rs) e =

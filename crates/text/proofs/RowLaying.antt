@@ -5,6 +5,7 @@ use native.Mathlib.Decide.{decLe}
 use native.Mathlib.Omega.{arith}
 use mathlib.Core.Path.{_≡_, sym, ap, subst, _∙_}
 use Rattle.meaning.specs.declared.Pen.{Pen}
+use Rattle.meaning.specs.Rows.{rowLimit}
 use mathlib.Core.Bool.{Bool}
 use mathlib.Core.List.{List, [], _∷_, map}
 use lib.ListN.{length, take, drop}
@@ -22,7 +23,7 @@ use Rattle.spans.specs.declared.SpanRead.{SpanRead}
 use Rattle.spans.specs.Ranges.{cut, cellsTo, shownRange, spanAt}
 use Rattle.spans.proofs.Laws.{no-spans, shown-spans, first-span}
 use Rattle.text.specs.declared.Tally.{Tally}
-use Rattle.text.specs.Laid.{cut64, Laid, PiecesLaid, RowDone}
+use Rattle.text.specs.Laid.{cutRow, Laid, PiecesLaid, RowDone}
 use Rattle.text.proofs.Laws.{LaidLeft, left-all, left-less, left-none}
 
 module _ (characters looks : List ℕ) (n : ℕ) where
@@ -82,24 +83,24 @@ module _ (characters looks : List ℕ) (n : ℕ) where
     pub spans-none : end ≤ i → PiecesLaid buf on t whole out marks r
     spans-none h = left-none (rw (no-spans characters looks i end h) at (l .left))
 
--- a row decoded into arrays of 64 and laid
-cut-64 : {A : Type 0} (xs : List A) → take (min (length xs) 64) xs ≡ take 64 xs
-cut-64 xs = by-length (decLe (length xs) 64)
+-- a row decoded into arrays of a row's limit and laid
+cut-row : {A : Type 0} (xs : List A) → take (min (length xs) rowLimit) xs ≡ take rowLimit xs
+cut-row xs = by-length (decLe (length xs) rowLimit)
   where
-    by-length : Dec (length xs ≤ 64) → take (min (length xs) 64) xs ≡ take 64 xs
-    by-length (yes h) = let m : min (length xs) 64 ≡ length xs = omega arith in rw m (take-length xs ∙ sym (take-all 64 xs h))
-    by-length (no h) = let m : min (length xs) 64 ≡ 64 = omega arith in rw m
+    by-length : Dec (length xs ≤ rowLimit) → take (min (length xs) rowLimit) xs ≡ take rowLimit xs
+    by-length (yes h) = let m : min (length xs) rowLimit ≡ length xs = omega arith in rw m (take-length xs ∙ sym (take-all rowLimit xs h))
+    by-length (no h) = let m : min (length xs) rowLimit ≡ rowLimit = omega arith in rw m
 
 pub row-done :
     {text : List ℕ} {start : ℕ} {pen : Pen} {characters looks characters′ looks′ buf buf′ : List ℕ} {on on′ : List Bool} {t r : Tally} {d : RowRead}
-    → Decoded text start pen characters looks characters′ looks′ d → length characters ≡ 64 → length looks ≡ 64
+    → Decoded text start pen characters looks characters′ looks′ d → length characters ≡ rowLimit → length looks ≡ rowLimit
     → PiecesLaid buf on t (map span (rowSpans (cellsAt characters′ looks′ 0 (cut characters′ looks′ (d .cells))))) buf′ on′ r
     → RowDone text start pen buf on t buf′ on′ (record { tally = r; ended = d .ended; next = d .next; pen = d .pen })
-unfolding cut64 rowAt
+unfolding cutRow rowAt
 row-done {text} {start} {pen} {characters} {looks} {characters′} {looks′} {d = d} k h l p =
-    let m : cut characters′ looks′ (d .cells) ≡ min (d .cells) 64 = omega (arith, decoded-lengths k) in
-    let c : cellsAt characters′ looks′ 0 (cut characters′ looks′ (d .cells)) ≡ take 64 (rowAt text start pen) =
-    rw m (decoded-cells k (min (d .cells) 64) (omega arith) (omega arith) (omega arith) ∙ rw (k .count) (cut-64 (rowAt text start pen))) in
+    let m : cut characters′ looks′ (d .cells) ≡ min (d .cells) rowLimit = omega (arith, decoded-lengths k) in
+    let c : cellsAt characters′ looks′ 0 (cut characters′ looks′ (d .cells)) ≡ take rowLimit (rowAt text start pen) =
+    rw m (decoded-cells k (min (d .cells) rowLimit) (omega arith) (omega arith) (omega arith) ∙ rw (k .count) (cut-row (rowAt text start pen))) in
     record {
       laid = rw c at p;
       ended = k .ended;

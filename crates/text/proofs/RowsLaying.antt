@@ -16,18 +16,19 @@ use Rattle.meaning.specs.Document.Piece.{span, br}
 use Rattle.meaning.specs.Conversion.{rowSpans, laterRows, rowPieces}
 use Rattle.output.specs.Output.{Wrote}
 use Rattle.rows.specs.FirstRow.{firstRow, afterRow, isEnded, rowsOf, rowsAfter}
+use Rattle.rows.specs.Scanning.{countLimit}
 use Rattle.rows.specs.Scanned.{nextRowAt}
 use Rattle.rows.proofs.Laws.{rows-first, rows-after, no-rows-after}
 use Rattle.rows.proofs.RowEnds.{rest-after, next-rows}
 use Rattle.text.specs.declared.Tally.{Tally}
 use Rattle.text.specs.declared.RowLaid.{RowLaid}
-use Rattle.text.specs.Laid.{cut64, RowDone, RowsDone}
+use Rattle.text.specs.Laid.{cutRow, RowDone, RowsDone}
 use Rattle.text.proofs.Laws.{wrote-then, pieces-then, laid-here, LaidLeft, left-all, left-less, left-none}
 
 module _ (text : List ℕ) (paired : Bool) where
   -- the pieces of the rows after the first of a run of tokens, from the pen after that row
   abbrev pub after : Pen → List Token → List Piece
-  after pen ts = laterRows (map cut64 (cellRows pen (rowsAfter paired ts)))
+  after pen ts = laterRows (map cutRow (cellRows pen (rowsAfter paired ts)))
 
   -- `row` is what stands from the row laid last on; the rows after it are still to come
   pub record RowsLeft (buf : List ℕ) (on : List Bool) (t : Tally) (first : Pen) (out : List ℕ) (marks : List Bool) (s : Tally) (pen : Pen) (more : Bool) (next n : ℕ) : Type 0 where
@@ -35,8 +36,8 @@ module _ (text : List ℕ) (paired : Bool) where
     pub ended : more ≡ isEnded row
     pub rest : tokens (drop next text) ≡ afterRow row
     pub left : LaidLeft buf on t (after first (tokens text)) out marks s (after pen row)
-    pub count : min (n + length (rowsAfter paired row)) 256 ≡ min (length (rowsOf paired (tokens text))) 256
-    pub few : n ≤ 256
+    pub count : min (n + length (rowsAfter paired row)) countLimit ≡ min (length (rowsOf paired (tokens text))) countLimit
+    pub few : n ≤ countLimit
 
   -- the first row is laid
   pub rows-all :
@@ -48,7 +49,7 @@ module _ (text : List ℕ) (paired : Bool) where
         ended = d .ended;
         rest = rest-after text 0 (d .next);
         left = left-all (after (r .pen) (tokens text)) (laid-here (d .laid));
-        count = rw (rows-first paired (tokens text)) (ap (λ (n : ℕ). min n 256) (omega arith));
+        count = rw (rows-first paired (tokens text)) (ap (λ (n : ℕ). min n countLimit) (omega arith));
         few = omega arith;
       }
 
@@ -56,7 +57,7 @@ module _ (text : List ℕ) (paired : Bool) where
   pub rows-less :
       {buf out out₁ out₂ : List ℕ} {on marks marks′ : List Bool} {t s : Tally} {first pen : Pen} {more : Bool} {next n start p m : ℕ} {r : RowLaid}
       → RowsLeft buf on t first out marks s pen more next n → more ≡ true → start ≡ nextRowAt text paired next
-      → Wrote out (s .at) (writePiece br) out₁ p → RowDone text start pen out₁ marks (record { at = p; spans = s .spans }) out₂ marks′ r → m ≡ min (n + 1) 256
+      → Wrote out (s .at) (writePiece br) out₁ p → RowDone text start pen out₁ marks (record { at = p; spans = s .spans }) out₂ marks′ r → m ≡ min (n + 1) countLimit
       → RowsLeft buf on t first out₂ marks′ (r .tally) (r .pen) (r .ended) (r .next) m
   unfolding laterRows cellRows
   rows-less {pen = pen} {next = next} {start = start} l e q b d k =
@@ -70,7 +71,7 @@ module _ (text : List ℕ) (paired : Bool) where
         rest = rest-after text start (d .next);
         left =
             rw (d .after)
-            (left-less (br ∷ map span (rowSpans (cut64 (cellsOfRow pen (firstRow us))))) (after (penAfterRow pen (firstRow us)) us)
+            (left-less (br ∷ map span (rowSpans (cutRow (cellsOfRow pen (firstRow us))))) (after (penAfterRow pen (firstRow us)) us)
             (rw o at (l .left)) (unfold joinMap looksOf in wrote-then b (d .laid)));
         count = rw k (omega (arith, l .count, c));
         few = omega arith;
@@ -89,7 +90,7 @@ module _ (text : List ℕ) (paired : Bool) where
       record {
         laid =
             rw (rows-first paired ts)
-            (pieces-then (map span (rowSpans (cut64 (cellsOfRow start (firstRow ts))))) (after (penAfterRow start (firstRow ts)) ts) (d .laid)
+            (pieces-then (map span (rowSpans (cutRow (cellsOfRow start (firstRow ts))))) (after (penAfterRow start (firstRow ts)) ts) (d .laid)
             (rw (d .after) at (left-none (rw o at (l .left)))));
         rows = omega (arith, l .count, l .few, c);
       }

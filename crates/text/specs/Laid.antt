@@ -9,7 +9,7 @@ use Rattle.meaning.specs.declared.Format.{Format}
 use Rattle.meaning.specs.declared.Pen.{Pen}
 use Rattle.meaning.specs.Lists.{joinMap}
 use Rattle.meaning.specs.Codes.{tokens}
-use Rattle.meaning.specs.Rows.{isDouble, rows}
+use Rattle.meaning.specs.Rows.{isDouble, rows, rowLimit}
 use Rattle.meaning.specs.Cells.{Cell, newPen, cellsOfRow, penAfterRow, cellRows}
 use Rattle.meaning.specs.Document.{Piece, writePiece, looksOf}
 use Rattle.meaning.specs.Document.Piece.{span}
@@ -17,6 +17,7 @@ use Rattle.meaning.specs.Conversion.{rowSpans, rowPieces, pieces}
 use Rattle.output.specs.Output.{past, Wrote}
 use Rattle.charset.specs.Reading.{afterRowAt}
 use Rattle.rows.specs.FirstRow.{firstRow, isEnded, rowsOf}
+use Rattle.rows.specs.Scanning.{countLimit}
 use Rattle.text.specs.declared.Tally.{Tally}
 use Rattle.text.specs.declared.RowLaid.{RowLaid}
 use Rattle.text.specs.declared.RowsLaid.{RowsLaid}
@@ -36,24 +37,24 @@ pub record Laid (buf : List ℕ) (on : List Bool) (t : Tally) (bytes looks : Lis
 abbrev pub PiecesLaid : List ℕ → List Bool → Tally → List Piece → List ℕ → List Bool → Tally → Type 0
 PiecesLaid buf on t ps buf′ on′ r = Laid buf on t (joinMap writePiece ps) (looksOf ps) buf′ on′ r
 
--- a row's cells, cut at 64: a text within rule 15 has no longer row
-unfoldable pub cut64 : List Cell → List Cell
-cut64 cs = take 64 cs
+-- a row's cells, as many as a row may have: a text within rule 15 has no longer row
+unfoldable pub cutRow : List Cell → List Cell
+cutRow cs = take rowLimit cs
 
 -- one row of a text laid: its spans, whether a row end follows it, the position after that, and the pen after the row
 pub record RowDone (text : List ℕ) (start : ℕ) (pen : Pen) (buf : List ℕ) (on : List Bool) (t : Tally) (buf′ : List ℕ) (on′ : List Bool) (r : RowLaid) : Type 0 where
-  pub laid : PiecesLaid buf on t (map span (rowSpans (cut64 (cellsOfRow pen (firstRow (tokens (drop start text))))))) buf′ on′ (r .tally)
+  pub laid : PiecesLaid buf on t (map span (rowSpans (cutRow (cellsOfRow pen (firstRow (tokens (drop start text))))))) buf′ on′ (r .tally)
   pub ended : r .ended ≡ isEnded (tokens (drop start text))
   pub next : r .next ≡ afterRowAt text start
   pub after : r .pen ≡ penAfterRow pen (firstRow (tokens (drop start text)))
 
--- all rows of a text laid, with their number, counted up to 256
+-- all rows of a text laid, with their number, counted up to a limit
 pub record RowsDone (text : List ℕ) (pen : Pen) (paired : Bool) (buf : List ℕ) (on : List Bool) (t : Tally) (buf′ : List ℕ) (on′ : List Bool) (r : RowsLaid) : Type 0 where
-  pub laid : PiecesLaid buf on t (rowPieces (map cut64 (cellRows pen (rowsOf paired (tokens text))))) buf′ on′ (r .tally)
-  pub rows : r .rows ≡ min (length (rowsOf paired (tokens text))) 256
+  pub laid : PiecesLaid buf on t (rowPieces (map cutRow (cellRows pen (rowsOf paired (tokens text))))) buf′ on′ (r .tally)
+  pub rows : r .rows ≡ min (length (rowsOf paired (tokens text))) countLimit
 
 -- what is laid for a text
 unfoldable pub contentOf : Format → ℕ → List ℕ → List Piece
 contentOf f vp text =
     let ts = tokens text in
-    pieces (f .screen .end) vp (isDouble ts) (map cut64 (cellRows (newPen (isDouble ts)) (rows (f .mode) ts)))
+    pieces (f .screen .end) vp (isDouble ts) (map cutRow (cellRows (newPen (isDouble ts)) (rows (f .mode) ts)))

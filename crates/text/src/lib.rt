@@ -126,8 +126,8 @@ fn lay_row(
 ) -> RowLaid
     ensures { λ r. ⌜ RowDone (now (text .entry)) start before (now (out .entry)) (now (marks .entry)) t (now (out .exit)) (now (marks .exit)) r ⌝ }
 {
-    let mut characters = [0u16; 64];
-    let mut looks = [0u16; 64];
+    let mut characters = [0u16; Rows::LONGEST];
+    let mut looks = [0u16; Rows::LONGEST];
     let row = cells::decode_row(text, start, before, &mut characters, &mut looks);
     let tally = put_row(out, marks, t, &characters, &looks, row.cells);
     let pen = row.pen;
@@ -143,12 +143,6 @@ fn lay_row(
 pub(crate) struct RowsLaid {
     pub tally: Tally,
     pub rows: u32,
-}
-
-fn row_counted(n: u32) -> u32
-    ensures { λ r. ⌜ r ≡ min (n + 1) 256 ⌝ }
-{
-    if n < 256 { n + 1 } else { 256 }
 }
 
 fn lay_rows(
@@ -175,13 +169,13 @@ fn lay_rows(
         pen = row.pen;
         more = row.ended;
         next = row.next;
-        rows = row_counted(rows);
+        rows = rows::counted(rows, 1);
     }
     RowsLaid { tally, rows }
 }
 
 // A set's text as the content of its paragraph: its rows with a line break between them, then one for each filler line.
-// A row is cut at 64 cells, which no text within rule 15 has more of.
+// A row is cut at the limit of rule 15.
 pub fn put_content(
     out: &mut [u8],
     marks: &mut [bool],

@@ -3,6 +3,7 @@
 use Prim.Native.Nat.{ℕ}
 use lib.ListN.{length-replicate}
 use borrow.Author.Needs.{needs}
+use Rattle.meaning.specs.Rows.{rowLimit}
 use Rattle.text.proofs.RowLaying.{row-done}
 use Rattle.text.proofs.lay_row.Statement.{statement}
 use Rattle.text.proofs.lay_row.Tie as tie
@@ -11,7 +12,7 @@ returns : tie.Need-returns
 returns c =
     let p = c .before .before .before .before .before in
     let d = p .before .before .before .before .before .before .before in
-    row-done (d .decode-row .ensures) (length-replicate {A = ℕ} 64 0) (length-replicate {A = ℕ} 64 0) (p .put-row .ensures)
+    row-done (d .decode-row .ensures) (length-replicate {A = ℕ} rowLimit 0) (length-replicate {A = ℕ} rowLimit 0) (p .put-row .ensures)
 
 pub lay-row-spec : {M : Type 1} → statement M
 lay-row-spec =

@@ -5,6 +5,7 @@ use native.Mathlib.Omega.{arith}
 use mathlib.Core.Path.{sym}
 use borrow.Author.Needs.{needs}
 use lib.ListN.{length-replicate}
+use Rattle.sets.specs.Assembling.{textRoom}
 use Rattle.writing.proofs.Laws.{Written, written-none, written-ready, written-more, written-all}
 use Rattle.writing.proofs.write_blocks.Statement.{statement}
 use Rattle.writing.proofs.write_blocks.Tie as tie
@@ -17,7 +18,7 @@ abbrev μ-loop : tie.MeasureT-loop
 μ-loop file n f out₀ marks₀ text₀ w₀ k₀ out marks text w k = n - k
 
 loop-holds : tie.Need-loop-holds Inv-loop μ-loop
-loop-holds c = written-none _ _ _ _ _ (length-replicate {A = ℕ} 26992 0)
+loop-holds c = written-none _ _ _ _ _ (length-replicate {A = ℕ} textRoom 0)
 
 slice-aggregate : tie.Need-slice-aggregate-write-block Inv-loop μ-loop
 slice-aggregate c = sym (c .before .before .before .loop .inv .long)

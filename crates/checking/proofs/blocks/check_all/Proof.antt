@@ -6,6 +6,7 @@ use mathlib.Core.Path.{sym}
 use borrow.Author.Needs.{needs}
 use lib.ListN.{length-replicate}
 use Rattle.meaning.specs.Walk.{setRule}
+use Rattle.sets.specs.Assembling.{textRoom}
 use Rattle.checking.proofs.Standing.{good-number, bad-number}
 use Rattle.checking.proofs.Looping.{Passed, passed-none, passed-refused, passed-all, passed-ready, passed-more}
 use Rattle.checking.proofs.blocks.check_all.Statement.{statement}
@@ -19,7 +20,7 @@ abbrev μ-loop : tie.MeasureT-loop
 μ-loop file n f out₀ marks₀ text₀ w₀ k₀ out marks text w k = n - k
 
 loop-holds : tie.Need-loop-holds Inv-loop μ-loop
-loop-holds c = passed-none _ _ _ _ _ _ (length-replicate {A = ℕ} 26992 0)
+loop-holds c = passed-none _ _ _ _ _ _ (length-replicate {A = ℕ} textRoom 0)
 
 same-length : tie.Need-same-length Inv-loop μ-loop
 same-length c = c .before .before .before .before .loop .inv .same

@@ -7,7 +7,7 @@ use Rattle.rows.proofs.TextFacts.with_row.Tie as tie
 
 returns : tie.Need-returns
 unfolding withRow
-returns c = rw (c .sum-up-to .ensures)
+returns c = rw (c .counted .ensures)
 
 pub with-row-spec : {M : Type 1} → statement M
-with-row-spec = tie.close (tie.spec (λ c κs. search needs) returns)
+with-row-spec = tie.close (tie.spec (λ c. search needs) (λ c κs. search needs) returns)

@@ -1,13 +1,14 @@
--- `no_foreground` starts with white.
+-- `no_foreground` starts with white on black.
 -- Assumes nothing.
-use Rattle.spans.specs.Foregrounds.{noForeground}
 use borrow.Author.Needs.{needs}
+use Rattle.meaning.specs.Looks.{whiteOnBlack}
+use Rattle.spans.specs.Foregrounds.{noForeground}
 use Rattle.spans.proofs.joining.no_foreground.Statement.{statement}
 use Rattle.spans.proofs.joining.no_foreground.Tie as tie
 
 returns : tie.Need-returns
-unfolding noForeground
-returns c = search needs
+unfolding noForeground whiteOnBlack
+returns c = rw (c .pack .ensures)
 
 pub no-foreground-spec : {M : Type 1} → statement M
-no-foreground-spec = tie.close (tie.spec (λ c. search needs) returns)
+no-foreground-spec = tie.close (tie.spec (λ c κs. search needs) returns)
