@@ -7,6 +7,7 @@ ghost use Rattle.meaning.specs.Lists.{takeWhile};
 ghost use Rattle.meaning.specs.Blocks.{timeAt, headerOf, inText, blockText};
 use crate::parts::field;
 use meaning::Header;
+use meaning::TEXT_SIZE;
 use meaning::Time;
 
 // The low byte comes first.
@@ -28,7 +29,7 @@ fn time_at(b: &[u8], i: usize) -> Time
     }
 }
 
-fn header_of(b: &[u8]) -> Header
+fn whole_header(b: &[u8]) -> Header
     requires { ⌜ 16 ≤ length (now b) ⌝ }
     ensures { λ r. ⌜ r ≡ headerOf (now (b .entry)) ⌝ }
 {
@@ -50,11 +51,11 @@ pub(crate) fn header_in(b: &[u8]) -> Header
     ensures { λ r. ⌜ r ≡ headerOf (now (b .entry)) ⌝ }
 {
     if 16 <= b.len() {
-        return header_of(b);
+        return whole_header(b);
     }
     let mut filled = [0u8; 16];
     output::put(&mut filled, 0, b);
-    header_of(&filled)
+    whole_header(&filled)
 }
 
 // How many bytes stand before the first 8Fh.
@@ -75,7 +76,7 @@ fn length_before_end(text: &[u8]) -> usize
 pub(crate) fn text_in(b: &[u8]) -> &[u8]
     ensures { λ r. ⌜ now r ≡ blockText (now (b .entry)) ⌝ }
 {
-    let text = field(b, 16, 112);
+    let text = field(b, 16, TEXT_SIZE);
     let n = length_before_end(text);
     &text[..n]
 }

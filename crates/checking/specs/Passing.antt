@@ -14,18 +14,18 @@ use Rattle.meaning.specs.Sets.{advance}
 use Rattle.meaning.specs.Walk.{noCounts, counted, isOpen, Outcome}
 use Rattle.meaning.specs.Walk.Outcome.{refused, accepted}
 use Rattle.sets.specs.Assembling.{assemblyOf, eventOf}
-use Rattle.closed.specs.Pages.{Page}
+use Rattle.closed.specs.Body.{Body}
 use Rattle.checking.specs.declared.Checked.{Checked}
 use Rattle.checking.specs.declared.blocks.Pass.{Pass}
 use Rattle.checking.specs.declared.blocks.Taken.{Taken}
 
 -- nothing laid yet: the buffer of pass one has one byte, which is not read
-abbrev pub blank : Page
-blank = record { out = 0 ∷ []; marks = replicate lookCount false; tally = record { at = 0; spans = 0 } }
+abbrev pub emptyBody : Body
+emptyBody = record { out = 0 ∷ []; marks = replicate lookCount false; tally = record { at = 0; spans = 0 } }
 
 -- what a pass stands for, with its text buffer and what it laid
-unfoldable pub standing : Pass → List ℕ → List ℕ → List Bool → Outcome Page
-standing w text out marks =
+unfoldable pub outcomeOf : Pass → List ℕ → List ℕ → List Bool → Outcome Body
+outcomeOf w text out marks =
     elim (isGood (w .refusal)) [
       | true ↦
           accepted (record { assembly = assemblyOf (w .sets) text; counts = w .counts; gathered = record { out = out; marks = marks; tally = w .tally } })
@@ -33,9 +33,9 @@ standing w text out marks =
     ]
 
 -- what pass one tells; of a refused file nothing but the refusal
-unfoldable pub checkedOf : Outcome Page → Checked
+unfoldable pub checkedOf : Outcome Body → Checked
 checkedOf (refused r) =
-    record { refusal = r; counts = noCounts; tally = blank .tally; marks = record { on = blank .marks } }
+    record { refusal = r; counts = noCounts; tally = emptyBody .tally; marks = record { on = emptyBody .marks } }
 checkedOf (accepted p) =
     record { refusal = noRefusal; counts = p .counts; tally = p .gathered .tally; marks = record { on = p .gathered .marks } }
 

@@ -7,8 +7,8 @@ ghost use Prim.Native.Nat.{ℕ, _+_, _<_, _^_};
 ghost use Rattle.meaning.specs.Refusals.{isGood};
 ghost use Rattle.meaning.specs.Walk.{total, counted, setRule, step, finish, walk};
 ghost use Rattle.sets.specs.Assembling.{hasRoom};
-ghost use Rattle.closed.specs.Pages.{laySet};
-ghost use Rattle.checking.specs.Passing.{standing, TakenBlock};
+ghost use Rattle.closed.specs.Body.{laySet};
+ghost use Rattle.checking.specs.Passing.{outcomeOf, TakenBlock};
 use closed::lay;
 use closed::set_rule;
 use meaning::Counts;
@@ -37,7 +37,7 @@ pub(crate) const NO_COUNTS: Counts = Counts {
 impl Pass {
     // After the last of n blocks: a set still open is refused.
     fn finished(self, n: u64) -> Pass
-        ensures { λ r. ⌜ ((text out : List ℕ) (marks : List Bool) → standing r text out marks ≡ finish n (standing self text out marks)) ⌝ }
+        ensures { λ r. ⌜ ((text out : List ℕ) (marks : List Bool) → outcomeOf r text out marks ≡ finish n (outcomeOf self text out marks)) ⌝ }
     {
         let refusal = self.refusal;
         if refusal.number != 0 {
@@ -122,7 +122,7 @@ fn check_block(
     w: Pass,
 ) -> Pass
     requires { ⌜ (isGood (w .refusal) ≡ true) × (hasRoom (now bytes) (w .sets) (now text) ≡ true) × (total (w .counts) + 1 < 2 ^ 64) ⌝ }
-    ensures { λ r. ⌜ standing r (now (text .exit)) (now (out .exit)) (now (marks .exit)) ≡ step f (setRule f) (laySet f) place (standing w (now (text .entry)) (now (out .entry)) (now (marks .entry))) (now (bytes .entry)) ⌝ }
+    ensures { λ r. ⌜ outcomeOf r (now (text .exit)) (now (out .exit)) (now (marks .exit)) ≡ step f (setRule f) (laySet f) place (outcomeOf w (now (text .entry)) (now (out .entry)) (now (marks .entry))) (now (bytes .entry)) ⌝ }
 {
     let taken = take_block(f, place, bytes, text, w);
     let step = taken.step;
@@ -150,7 +150,7 @@ pub(crate) fn check_all(
     marks: &mut [bool],
     t: Tally,
 ) -> Pass
-    ensures { λ r. ⌜ ((text : List ℕ) → standing r text (now (out .exit)) (now (marks .exit)) ≡ finish n (walk f (setRule f) (laySet f) (record { out = now (out .entry); marks = now (marks .entry); tally = t }) (now (file .entry)) n)) ⌝ }
+    ensures { λ r. ⌜ ((text : List ℕ) → outcomeOf r text (now (out .exit)) (now (marks .exit)) ≡ finish n (walk f (setRule f) (laySet f) (record { out = now (out .entry); marks = now (marks .entry); tally = t }) (now (file .entry)) n)) ⌝ }
 {
     let mut text = [0u8; Sets::ROOM];
     let mut w = Pass {

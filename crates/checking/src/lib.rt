@@ -2,8 +2,8 @@
 
 ghost use mathlib.Core.Path.{_≡_};
 ghost use Rattle.meaning.specs.Walk.{setRule, finish, walk};
-ghost use Rattle.closed.specs.Pages.{laySet};
-ghost use Rattle.checking.specs.Passing.{blank, checkedOf};
+ghost use Rattle.closed.specs.Body.{laySet};
+ghost use Rattle.checking.specs.Passing.{emptyBody, checkedOf};
 use blocks::NO_COUNTS;
 use meaning::Counts;
 use meaning::Format;
@@ -26,7 +26,7 @@ pub struct Checked {
 
 // The first n blocks of any file.
 pub fn check_blocks(file: &[u8], n: usize, f: Format) -> Checked
-    ensures { λ r. ⌜ r ≡ checkedOf (finish n (walk f (setRule f) (laySet f) blank (now (file .entry)) n)) ⌝ }
+    ensures { λ r. ⌜ r ≡ checkedOf (finish n (walk f (setRule f) (laySet f) emptyBody (now (file .entry)) n)) ⌝ }
 {
     let mut out = [0u8; 1];
     let mut on = [false; Look::COUNT];

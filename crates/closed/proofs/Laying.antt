@@ -24,32 +24,32 @@ use Rattle.text.proofs.Laws.{_then_}
 use Rattle.document.specs.Parts.{paragraphFor, ParagraphLaid}
 use Rattle.sets.specs.declared.Set.{Set}
 use Rattle.sets.specs.Assembling.{setOf, setWith}
-use Rattle.closed.specs.Pages.{Page, laid, paragraphsFor, laySet}
+use Rattle.closed.specs.Body.{Body, laid, paragraphsFor, laySet}
 
-pages :
+bodies :
     {out out′ : List ℕ} {marks marks′ : List Bool} {at at′ spans spans′ : ℕ} → out ≡ out′ → marks ≡ marks′ → at ≡ at′ → spans ≡ spans′
-    → _≡_ {A = Page} (record { out = out; marks = marks; tally = record { at = at; spans = spans } })
+    → _≡_ {A = Body} (record { out = out; marks = marks; tally = record { at = at; spans = spans } })
     (record { out = out′; marks = marks′; tally = record { at = at′; spans = spans′ } })
-pages e f g h = rw (e, f, g, h)
+bodies e f g h = rw (e, f, g, h)
 
-pub laid-none : (p : Page) → p .tally .at < 2 ^ 64 → p .tally .spans < 2 ^ 64 → p ≡ laid [] p
+pub laid-none : (p : Body) → p .tally .at < 2 ^ 64 → p .tally .spans < 2 ^ 64 → p ≡ laid [] p
 unfolding laid joinMap documentLooks stored markedWith past
-laid-none p h i = pages refl refl (omega arith) (omega arith)
+laid-none p h i = bodies refl refl (omega arith) (omega arith)
 
--- a page is what is laid on another
+-- a body is what is laid on another
 pub is-laid :
     {out out′ : List ℕ} {marks marks′ : List Bool} {t r : Tally} (ps : List Paragraph) → Laid out marks t (joinMap writeParagraph ps) (documentLooks ps) out′ marks′ r
-    → _≡_ {A = Page} (record { out = out′; marks = marks′; tally = r }) (laid ps (record { out = out; marks = marks; tally = t }))
+    → _≡_ {A = Body} (record { out = out′; marks = marks′; tally = r }) (laid ps (record { out = out; marks = marks; tally = t }))
 unfolding laid
-is-laid ps l = pages (l .wrote .held) (l .marks) (l .wrote .next) (l .spans)
+is-laid ps l = bodies (l .wrote .held) (l .marks) (l .wrote .next) (l .spans)
 
 pub laid-is :
-    (ps : List Paragraph) (p : Page) → length (p .out) < 2 ^ 64
+    (ps : List Paragraph) (p : Body) → length (p .out) < 2 ^ 64
     → Laid (p .out) (p .marks) (p .tally) (joinMap writeParagraph ps) (documentLooks ps) (laid ps p .out) (laid ps p .marks) (laid ps p .tally)
 unfolding laid
 laid-is ps p h = record { wrote = record { held = refl; next = refl; room = h }; spans = refl; marks = refl }
 
-pub laid-append : (ps qs : List Paragraph) (p : Page) → length (p .out) < 2 ^ 64 → laid (ps ++ qs) p ≡ laid qs (laid ps p)
+pub laid-append : (ps qs : List Paragraph) (p : Body) → length (p .out) < 2 ^ 64 → laid (ps ++ qs) p ≡ laid qs (laid ps p)
 unfolding documentLooks
 laid-append ps qs p h =
     let a = laid-is ps p h in
@@ -74,13 +74,13 @@ module _ (f : Format) (s : Set) (text : List ℕ) {comment : Bool} (co : comment
   unfolding setRule setOf setWith field
   rule-subtitle e d g = rw (sym co, e) (g ∙ rw d)
 
-  pub lay-comment : (p : Page) → comment ≡ true → p .tally .at < 2 ^ 64 → p .tally .spans < 2 ^ 64 → p ≡ laySet f (setOf s text) p
+  pub lay-comment : (p : Body) → comment ≡ true → p .tally .at < 2 ^ 64 → p .tally .spans < 2 ^ 64 → p ≡ laySet f (setOf s text) p
   unfolding laySet paragraphsFor setOf setWith
   lay-comment p e h i = rw (sym co, e) (laid-none p h i)
 
   pub lay-subtitle :
       {out out′ : List ℕ} {marks marks′ : List Bool} {t r : Tally} {part : List ℕ} → comment ≡ false → part ≡ field 0 (s .size) text
       → ParagraphLaid out marks t (paragraphFor f (s .first) part) out′ marks′ r
-      → _≡_ {A = Page} (record { out = out′; marks = marks′; tally = r }) (laySet f (setOf s text) (record { out = out; marks = marks; tally = t }))
+      → _≡_ {A = Body} (record { out = out′; marks = marks′; tally = r }) (laySet f (setOf s text) (record { out = out; marks = marks; tally = t }))
   unfolding laySet paragraphsFor setOf setWith field
   lay-subtitle e d l = rw (sym co, e, sym d) (is-laid _ (one _ l))

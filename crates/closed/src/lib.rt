@@ -3,7 +3,7 @@
 ghost use mathlib.Core.Path.{_≡_};
 ghost use Rattle.meaning.specs.Walk.{setRule};
 ghost use Rattle.sets.specs.Assembling.{setOf};
-ghost use Rattle.closed.specs.Pages.{laySet};
+ghost use Rattle.closed.specs.Body.{laySet};
 use meaning::Format;
 use meaning::Refusal;
 use sets::Set;

@@ -19,7 +19,7 @@ use Rattle.meaning.specs.Looks.{lookCount}
 use Rattle.meaning.specs.Codes.{tokens}
 use Rattle.meaning.specs.Rows.{textRule}
 use Rattle.meaning.specs.Blocks.{isComment}
-use Rattle.meaning.specs.Sets.{OpenSet}
+use Rattle.meaning.specs.Sets.{BlockSet}
 use Rattle.meaning.specs.Walk.{Subtitle, Progress, Outcome, finish, walk, setRule, subtitleOf, subtitlesFrom, withSubtitles, outcome}
 use Rattle.meaning.specs.Walk.Outcome.{refused, accepted}
 use Rattle.meaning.specs.Document.{Paragraph, writeParagraph, documentLooks, render, documentSpans, afterParagraphs}
@@ -39,11 +39,11 @@ use Rattle.text.proofs.Content.{content-whole}
 use Rattle.document.specs.Parts.{headOf, paragraphFor}
 use Rattle.text.specs.declared.Tally.{Tally}
 use Rattle.checking.specs.declared.Checked.{Checked}
-use Rattle.closed.specs.Pages.{Page, laid, paragraphsFor, laySet}
-use Rattle.checking.specs.Passing.{blank, checkedOf}
+use Rattle.closed.specs.Body.{Body, laid, paragraphsFor, laySet}
+use Rattle.checking.specs.Passing.{emptyBody, checkedOf}
 use Rattle.writing.specs.Laying.{Laying, layBlocks}
 use Rattle.convert.specs.Telling.{marksOf, measured, answerOf}
-use Rattle.checking.proofs.Standing.{good-number, bad-number}
+use Rattle.meaning.proofs.RefusalLaws.{good-number, bad-number}
 use Rattle.closed.proofs.Laying.{laid-none, laid-append}
 use Rattle.writing.proofs.Laws.{walk-lays}
 use Rattle.convert.proofs.Marking.{looks-right}
@@ -55,36 +55,36 @@ unfolding paragraphFor paragraphOf subtitleOf
 paragraph-whole f place h text e = rw (content-whole f place (h .vp) text e)
 
 -- what is laid for a set within the rules are the paragraphs of its subtitles
-paragraphs-whole : (f : Format) (s : OpenSet) → isGood (setRule f s) ≡ true → paragraphsFor f s ≡ map (paragraphOf f) (subtitlesFrom f s)
+paragraphs-whole : (f : Format) (s : BlockSet) → isGood (setRule f s) ≡ true → paragraphsFor f s ≡ map (paragraphOf f) (subtitlesFrom f s)
 unfolding setRule paragraphsFor subtitlesFrom
 paragraphs-whole f s e =
     by-test (isComment (s .first))
     (λ c. rw c)
     (λ c. rw c (ap (λ (p : Paragraph). p ∷ []) (paragraph-whole f (s .place) (s .first) (s .text) (rw c at e))))
 
--- what is laid for subtitles, from a page on
-unfoldable pageOf : Format → Page → List Subtitle → Page
-pageOf f p ss = laid (map (paragraphOf f) ss) p
+-- what is laid for subtitles, from a body on
+unfoldable bodyOf : Format → Body → List Subtitle → Body
+bodyOf f p ss = laid (map (paragraphOf f) ss) p
 
--- a page that paragraphs can be laid on
-record Sound (p : Page) : Type 0 where
+-- a body that paragraphs can be laid on
+record Sound (p : Body) : Type 0 where
   room : length (p .out) < 2 ^ 64
   at : p .tally .at < 2 ^ 64
   spans : p .tally .spans < 2 ^ 64
 
-module _ (f : Format) (p : Page) (h : Sound p) where
-  alike : (s : OpenSet) (ss : List Subtitle) → isGood (setRule f s) ≡ true → pageOf f p (withSubtitles f s ss) ≡ laySet f s (pageOf f p ss)
-  unfolding pageOf withSubtitles laySet
+module _ (f : Format) (p : Body) (h : Sound p) where
+  alike : (s : BlockSet) (ss : List Subtitle) → isGood (setRule f s) ≡ true → bodyOf f p (withSubtitles f s ss) ≡ laySet f s (bodyOf f p ss)
+  unfolding bodyOf withSubtitles laySet
   alike s ss e =
       rw (map-append (paragraphOf f) ss (subtitlesFrom f s), paragraphs-whole f s e)
       (laid-append (map (paragraphOf f) ss) (map (paragraphOf f) (subtitlesFrom f s)) p (h .room))
 
   -- a walk that lays, by the one that gathers subtitles
-  walk-laid : (file : List ℕ) (n : ℕ) → walk f (setRule f) (laySet f) p file n ≡ mapped (pageOf f p) (walk f (setRule f) (withSubtitles f) [] file n)
-  unfolding pageOf
+  walk-laid : (file : List ℕ) (n : ℕ) → walk f (setRule f) (laySet f) p file n ≡ mapped (bodyOf f p) (walk f (setRule f) (withSubtitles f) [] file n)
+  unfolding bodyOf
   walk-laid file n =
-      ap (λ (q : Page). walk f (setRule f) (laySet f) q file n) (laid-none p (h .at) (h .spans))
-      ∙ sym (walk-mapped (pageOf f p) f (setRule f) (withSubtitles f) (laySet f) alike [] file n)
+      ap (λ (q : Body). walk f (setRule f) (laySet f) q file n) (laid-none p (h .at) (h .spans))
+      ∙ sym (walk-mapped (bodyOf f p) f (setRule f) (withSubtitles f) (laySet f) alike [] file n)
 
 -- the document in three parts: head, paragraphs, tail
 document-parts :
@@ -117,15 +117,15 @@ module _ (mode : ℕ) (file : List ℕ) where
 
   -- a walk that lays, by the outcome of a file that keeps the rules 1 to 6
   outcome-laid :
-      (p : Page) → Sound p → isGood (fileRule mode file) ≡ true
-      → (let f = formatOf mode file in finish (blockCount file) (walk f (setRule f) (laySet f) p file (blockCount file))) ≡ mapped (pageOf (formatOf mode file) p) (outcome mode file)
+      (p : Body) → Sound p → isGood (fileRule mode file) ≡ true
+      → (let f = formatOf mode file in finish (blockCount file) (walk f (setRule f) (laySet f) p file (blockCount file))) ≡ mapped (bodyOf (formatOf mode file) p) (outcome mode file)
   unfolding outcome
   outcome-laid p h e = rw (walk-laid (formatOf mode file) p h file (blockCount file), e, outcome) (sym (finish-mapped _ (blockCount file) _))
 
   answer-right :
       (room : ℕ) (o : Outcome (List Subtitle)) → outcome mode file ≡ o
-      → answerOf (formatOf mode file) room (checkedOf (mapped (pageOf (formatOf mode file) blank) o)) ≡ answerTo (formatOf mode file) room o
-  unfolding answerOf answerTo checkedOf mapped pageOf laid marksOf noRefusal isGood
+      → answerOf (formatOf mode file) room (checkedOf (mapped (bodyOf (formatOf mode file) emptyBody) o)) ≡ answerTo (formatOf mode file) room o
+  unfolding answerOf answerTo checkedOf mapped bodyOf laid marksOf noRefusal isGood
   answer-right room (refused r) c = rw (refusal-bad mode file c, answerOf)
   answer-right room (accepted p) c =
       ap (λ (n : ℕ). answerBy room (p .counts) n (past 0 (length (documentLooks (map (paragraphOf (formatOf mode file)) (p .gathered)))))) (length-right p c)
@@ -151,11 +151,11 @@ module _ (mode : ℕ) (file : List ℕ) where
 
       pub known-walk :
           (room : ℕ) {a : Answer} {f : Format} {n : ℕ} (c : Checked) → f ≡ formatOf mode file → n ≡ blockCount file
-          → c ≡ checkedOf (finish n (walk f (setRule f) (laySet f) blank file n)) → a ≡ answerOf f room c → Known room a (c .marks)
-      unfolding answer checkedOf mapped pageOf laid marksOf
+          → c ≡ checkedOf (finish n (walk f (setRule f) (laySet f) emptyBody file n)) → a ≡ answerOf f room c → Known room a (c .marks)
+      unfolding answer checkedOf mapped bodyOf laid marksOf
       known-walk room c g b s d =
-          let h : Sound blank = record { room = omega arith; at = omega arith; spans = omega arith } in
-          let x : c ≡ checkedOf (mapped (pageOf (formatOf mode file) blank) (outcome mode file)) = s ∙ rw (g, b) (ap checkedOf (outcome-laid blank h good)) in (
+          let h : Sound emptyBody = record { room = omega arith; at = omega arith; spans = omega arith } in
+          let x : c ≡ checkedOf (mapped (bodyOf (formatOf mode file) emptyBody) (outcome mode file)) = s ∙ rw (g, b) (ap checkedOf (outcome-laid emptyBody h good)) in (
             d ∙ rw (x, g) (answer-right room (outcome mode file) refl),
             λ p o. ap (λ (k : Checked). k .marks .on) x ∙ rw o,
           )
@@ -165,19 +165,19 @@ module _ (mode : ℕ) (file : List ℕ) where
   pub document-written :
       {f : Format} {n at last : ℕ} {marks : Marks} {buf b1 b2 b3 : List ℕ} (on on′ : List Bool) (t : Tally) → f ≡ formatOf mode file → n ≡ blockCount file
       → Wrote buf 0 (headOf (f .rate) (marks .on)) b1 at → at < 2 ^ 64
-      → record { out = b2; marks = on′; tally = t } ≡ layBlocks f file (record { out = b1; marks = on; tally = record { at = at; spans = 0 } }) n .page
+      → record { out = b2; marks = on′; tally = t } ≡ layBlocks f file (record { out = b1; marks = on; tally = record { at = at; spans = 0 } }) n .body
       → Wrote b2 (t .at) afterParagraphs b3 last → (p : Progress (List Subtitle)) → outcome mode file ≡ accepted p
       → marks .on ≡ marksOf (formatOf mode file) (p .gathered) → Wrote buf 0 (render (documentOf (formatOf mode file) (p .gathered))) b3 last
-  unfolding mapped pageOf laid
+  unfolding mapped bodyOf laid
   document-written {f} {n} {at} {b1 = b1} {b2} on on′ t g b w1 l s w3 p c m =
       let r = formatOf mode file in
-      let page : Page = record { out = b1; marks = on; tally = record { at = at; spans = 0 } } in
-      let h : Sound page = record { room = omega (arith, w1 .room, wrote-length w1); at = l; spans = omega arith } in
-      let z : finish (blockCount file) (walk r (setRule r) (laySet r) page file (blockCount file)) ≡ mapped (pageOf r page) (accepted p) =
-      outcome-laid mode file page h (rule-kept mode file p c) ∙ ap (mapped (pageOf r page)) c in
-      let y = (rw (g, b) at s) ∙ ap (λ (q : Laying). q .page) (walk-lays r (setRule r) file page (blockCount file) _ (finish-accepted (blockCount file) _ _ z)) in
+      let body : Body = record { out = b1; marks = on; tally = record { at = at; spans = 0 } } in
+      let h : Sound body = record { room = omega (arith, w1 .room, wrote-length w1); at = l; spans = omega arith } in
+      let z : finish (blockCount file) (walk r (setRule r) (laySet r) body file (blockCount file)) ≡ mapped (bodyOf r body) (accepted p) =
+      outcome-laid mode file body h (rule-kept mode file p c) ∙ ap (mapped (bodyOf r body)) c in
+      let y = (rw (g, b) at s) ∙ ap (λ (q : Laying). q .body) (walk-lays r (setRule r) file body (blockCount file) _ (finish-accepted (blockCount file) _ _ z)) in
       let w2 : Wrote b1 at (joinMap writeParagraph (map (paragraphOf r) (p .gathered))) b2 (t .at) =
-      record { held = ap (λ (q : Page). q .out) y; next = ap (λ (q : Page). q .tally .at) y; room = h .room } in
+      record { held = ap (λ (q : Body). q .out) y; next = ap (λ (q : Body). q .tally .at) y; room = h .room } in
       wrote-as (document-parts r (p .gathered) m) ((rw g at w1) ⨟ w2 ⨟ w3)
 
 -- the answer by what pass one told
@@ -198,7 +198,7 @@ module _ (f : Format) (room : ℕ) (c : Checked) {a : Answer} where
 -- what the converter promises
 module _ (mode : ℕ) (file buf : List ℕ) {r : Answer} (e : r ≡ answer mode file (length buf)) where
   untouched : (r .number ≡ 0 → ⊥) → buf ≡ output mode file buf
-  untouched z = sym (refused-untouched mode file buf (λ y. z (ap (λ (a : Answer). a .number) e ∙ y)))
+  untouched z = sym (refused-untouched mode file buf .1 (λ y. z (ap (λ (a : Answer). a .number) e ∙ y)))
 
   module _ (b : Bytes file) where
     abbrev Right : List ℕ → Type 0

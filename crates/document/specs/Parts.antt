@@ -5,7 +5,7 @@ use mathlib.Core.Bool.{Bool}
 use mathlib.Core.List.{List, [], _∷_}
 use Rattle.meaning.specs.Lists.{joinMap, joined}
 use Rattle.meaning.specs.Document.{Paragraph, digits, writeParagraph, writeStyle, beforeRate, beforeStyles, beforeParagraphs, looksOf}
-use Rattle.meaning.specs.Conversion.{alignmentOf}
+use Rattle.meaning.specs.Conversion.{paragraphWith}
 use Rattle.styles.specs.Styles.{looksMarked}
 use Rattle.meaning.specs.declared.Header.{Header}
 use Rattle.meaning.specs.declared.Format.{Format}
@@ -18,14 +18,7 @@ headOf rate on = joined (beforeRate ∷ digits 2 rate ∷ beforeStyles ∷ joinM
 
 -- the paragraph of a set: its first block's header, and its text
 unfoldable pub paragraphFor : Format → Header → List ℕ → Paragraph
-paragraphFor f h text =
-    record {
-      number = h .sn;
-      begin = h .tci;
-      end = h .tco;
-      alignment = alignmentOf (h .jc);
-      pieces = contentOf f (h .vp) text;
-    }
+paragraphFor f h text = paragraphWith h (contentOf f (h .vp) text)
 
 -- a paragraph laid from a tally on
 abbrev pub ParagraphLaid : List ℕ → List Bool → Tally → Paragraph → List ℕ → List Bool → Tally → Type 0

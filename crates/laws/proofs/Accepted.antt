@@ -12,7 +12,7 @@ use borrow.Author.Tests.{eqb-true, eqb-false}
 use Rattle.meaning.specs.declared.Answer.{Answer}
 use Rattle.meaning.specs.Lists.{all, field}
 use Rattle.meaning.specs.Gsi.{rateOf, isRate, formatOf, blockCount, isDigit, tnb, fileRule}
-use Rattle.meaning.specs.Blocks.{blocks}
+use Rattle.meaning.specs.Blocks.{gsiSize, blocks}
 use Rattle.meaning.specs.Refusals.{isGood}
 use Rattle.meaning.specs.Walk.{total, Subtitle, Progress, Outcome, walk, setRule, withSubtitles, outcome}
 use Rattle.meaning.specs.Walk.Outcome.{refused, accepted}
@@ -28,7 +28,7 @@ file-known : (mode : ℕ) (file : List ℕ) → isGood (fileRule mode file) ≡ 
 unfolding fileRule
 file-known mode file e = broken-known 0 _ (omega arith) e
 
-module _ (Block : List ℕ → Type 0) (mode : ℕ) (file : List ℕ) (blocked : All Block (blocks (blockCount file) (drop 1024 file))) where
+module _ (Block : List ℕ → Type 0) (mode : ℕ) (file : List ℕ) (blocked : All Block (blocks (blockCount file) (drop gsiSize file))) where
   pub outcome-kept : Kept Block (formatOf mode file) (blockCount file) (outcome mode file)
   unfolding outcome
   outcome-kept =
@@ -114,7 +114,7 @@ module _ (mode : ℕ) (file : List ℕ) where
         (let a = answer mode file (length buffer) in a .subtitles + a .comments + a .continuations + a .users) ≡ tnb file
     counts-are-tnb = counts-add-up ∙ sym (tnb-right (rule-kept (taken .progress) (taken .came)))
 
-module _ {Block : List ℕ → Type 0} {mode : ℕ} {file : List ℕ} {h : All Block (blocks (blockCount file) (drop 1024 file))} {buffer : List ℕ} (t : Accepted Block mode file h buffer) where
+module _ {Block : List ℕ → Type 0} {mode : ℕ} {file : List ℕ} {h : All Block (blocks (blockCount file) (drop gsiSize file))} {buffer : List ℕ} (t : Accepted Block mode file h buffer) where
   -- the length is that of the document
   pub length-is-document : answer mode file (length buffer) .length ≡ length (render (documentOf (formatOf mode file) (t .progress .gathered)))
   unfolding acceptedAnswer

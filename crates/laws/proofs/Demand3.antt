@@ -7,6 +7,7 @@ use mathlib.Core.List.{List}
 use lib.ListN.{length, take}
 use Rattle.meaning.specs.declared.Answer.{Answer}
 use Rattle.meaning.specs.Gsi.{formatOf, blockCount}
+use Rattle.meaning.specs.Blocks.{gsiSize}
 use Rattle.meaning.specs.declared.Format.{Format}
 use Rattle.meaning.specs.Walk.{Subtitle, outcome, subtitlesOf}
 use Rattle.meaning.specs.Document.{Document, render, documentSpans}
@@ -28,8 +29,8 @@ all-sound f nil = nil
 all-sound f (cons m h) = cons (made-sound f _ m) (all-sound f h)
 
 module _ (mode : ℕ) (file : List ℕ) (b : Bytes file) (buffer : List ℕ) (e : answer mode file (length buffer) .number ≡ 0) where
-  taken : Accepted Bytes mode file (file-bytes (blockCount file) 1024 file b) buffer
-  taken = accepted-file Bytes mode file (file-bytes (blockCount file) 1024 file b) buffer e
+  taken : Accepted Bytes mode file (file-bytes (blockCount file) gsiSize file b) buffer
+  taken = accepted-file Bytes mode file (file-bytes (blockCount file) gsiSize file b) buffer e
 
   own : Document
   own = documentOf (formatOf mode file) (taken .progress .gathered)

@@ -10,8 +10,8 @@ use Rattle.meaning.specs.declared.Refusal.{Refusal}
 use Rattle.meaning.specs.declared.Counts.{Counts}
 use Rattle.meaning.specs.declared.Format.{Format}
 use Rattle.meaning.specs.Refusals.{isGood}
-use Rattle.meaning.specs.Blocks.{blocks}
-use Rattle.meaning.specs.Sets.{OpenSet, Event}
+use Rattle.meaning.specs.Blocks.{gsiSize, blocks}
+use Rattle.meaning.specs.Sets.{BlockSet, Event}
 use Rattle.meaning.specs.Sets.Event.{broken, pending, closed}
 use Rattle.meaning.specs.Walk.{Progress, Outcome, isOpen, begun, finish, judge, step, steps, walk}
 use Rattle.meaning.specs.Walk.Outcome.{refused, accepted}
@@ -29,7 +29,7 @@ module _ {A B : Type 0} (g : A → B) where
   finish-mapped n (accepted p) = by-test (isOpen (p .assembly)) (λ e. rw (e, finish, mapped)) (λ e. rw (e, finish, mapped))
 
   -- sets that keep the rule are gathered alike
-  module _ (f : Format) (rule : OpenSet → Refusal) (add : OpenSet → A → A) (add′ : OpenSet → B → B) (alike : (s : OpenSet) (x : A) → isGood (rule s) ≡ true → g (add s x) ≡ add′ s (g x)) where
+  module _ (f : Format) (rule : BlockSet → Refusal) (add : BlockSet → A → A) (add′ : BlockSet → B → B) (alike : (s : BlockSet) (x : A) → isGood (rule s) ≡ true → g (add s x) ≡ add′ s (g x)) where
     judge-mapped : (c : Counts) (x : A) (e : Event) → mapped g (judge f rule add c x e) ≡ judge f rule add′ c (g x) e
     unfolding judge mapped
     judge-mapped c x (broken r) = refl
@@ -49,7 +49,7 @@ module _ {A B : Type 0} (g : A → B) where
 
     pub walk-mapped : (x : A) (file : List ℕ) (n : ℕ) → mapped g (walk f rule add x file n) ≡ walk f rule add′ (g x) file n
     unfolding walk begun mapped
-    walk-mapped x file n = steps-mapped 0 _ (blocks n (drop 1024 file))
+    walk-mapped x file n = steps-mapped 0 _ (blocks n (drop gsiSize file))
 
 pub refused-not : {A : Type 0} {r : Refusal} {p : Progress A} → refused r ≡ accepted p → ⊥
 refused-not e = let z : _≡_ {A = ℕ} 0 1 = cc in omega arith

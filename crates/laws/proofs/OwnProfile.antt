@@ -13,7 +13,7 @@ use Rattle.meaning.specs.Codes.{tokens}
 use Rattle.meaning.specs.Rows.{isDouble}
 use Rattle.meaning.specs.Cells.{Cell, newPen, shown}
 use Rattle.meaning.specs.Spans.{lookOf}
-use Rattle.meaning.specs.Blocks.{blocks, headerOf, timesRight, isComment, subtitleRules, firstBlockRules}
+use Rattle.meaning.specs.Blocks.{blockSize, blocks, headerOf, timesRight, isComment, subtitleRules, firstBlockRules}
 use Rattle.meaning.specs.declared.Header.{Header}
 use Rattle.meaning.specs.declared.Format.{Format}
 use Rattle.meaning.specs.Walk.{Subtitle, subtitleOf}
@@ -48,7 +48,7 @@ take-bytes (suc n) (x ∷ s) h (suc i) = take-bytes n s (λ k. h (suc k)) i
 pub blocks-bytes : (n : ℕ) (s : List ℕ) → Bytes s → All Bytes (blocks n s)
 unfolding blocks
 blocks-bytes zero s h = nil
-blocks-bytes (suc n) s h = cons (take-bytes 128 s h) (blocks-bytes n (drop 128 s) (drop-bytes 128 s h))
+blocks-bytes (suc n) s h = cons (take-bytes blockSize s h) (blocks-bytes n (drop blockSize s) (drop-bytes blockSize s h))
 
 pub file-bytes : (n k : ℕ) (s : List ℕ) → Bytes s → All Bytes (blocks n (drop k s))
 file-bytes n k s h = blocks-bytes n (drop k s) (drop-bytes k s h)

@@ -42,8 +42,7 @@ untouched f buffer (accepted p) z =
     by-test (leb (length (render (documentOf f (p .gathered)))) (length buffer)) (λ t. absurd (z (rw (t, answerBy)))) (λ t. rw (t, bufferAfter))
 
 module _ (mode : ℕ) (file : List ℕ) where
-  -- there are 16 refusals
-  pub number-bound : (room : ℕ) → answer mode file room .number ≤ 16
+  number-bound : (room : ℕ) → answer mode file room .number ≤ 16
   unfolding answer
   number-bound room = number-low (formatOf mode file) (blockCount file) room (outcome mode file) (outcome-kept Any mode file (any-blocks _))
 
@@ -51,7 +50,10 @@ module _ (mode : ℕ) (file : List ℕ) where
   pub refusal-bad : {r : Refusal} → outcome mode file ≡ refused r → isGood r ≡ false
   refusal-bad e = kept-bad (formatOf mode file) (blockCount file) e (outcome-kept Any mode file (any-blocks _))
 
-  -- a refusal writes nothing
-  pub refused-untouched : (buffer : List ℕ) → (answer mode file (length buffer) .number ≡ 0 → ⊥) → output mode file buffer ≡ buffer
+  -- there are 16 refusals, and a refusal writes nothing
+  pub refused-untouched :
+      (buffer : List ℕ)
+      → (answer mode file (length buffer) .number ≤ 16)
+      × ((answer mode file (length buffer) .number ≡ 0 → ⊥) → output mode file buffer ≡ buffer)
   unfolding answer output
-  refused-untouched buffer z = untouched (formatOf mode file) buffer (outcome mode file) z
+  refused-untouched buffer = (number-bound (length buffer), untouched (formatOf mode file) buffer (outcome mode file))

@@ -10,8 +10,8 @@ use lib.ListN.{length, take, drop}
 use lib.Seq.{drop-drop}
 use Rattle.meaning.specs.declared.Refusal.{Refusal}
 use Rattle.meaning.specs.declared.Format.{Format}
-use Rattle.meaning.specs.Blocks.{blocks, blockAt}
-use Rattle.meaning.specs.Sets.{OpenSet}
+use Rattle.meaning.specs.Blocks.{gsiSize, blockSize, blocks, blockAt}
+use Rattle.meaning.specs.Sets.{BlockSet}
 use Rattle.meaning.specs.Walk.{Outcome, step, steps, walk}
 use Rattle.meaning.specs.Walk.Outcome.{refused}
 use Rattle.meaning.proofs.ListLaws.{All}
@@ -20,16 +20,16 @@ use Rattle.meaning.proofs.ListLaws.All.{cons}
 pub blocks-length : (n : ℕ) (s : List ℕ) → length (blocks n s) ≡ n
 unfolding blocks
 blocks-length zero s = refl
-blocks-length (suc n) s = ap suc (blocks-length n (drop 128 s))
+blocks-length (suc n) s = ap suc (blocks-length n (drop blockSize s))
 
-blocks-last : (k : ℕ) (s : List ℕ) → blocks (suc k) s ≡ blocks k s ++ (take 128 (drop (128 * k) s) ∷ [])
+blocks-last : (k : ℕ) (s : List ℕ) → blocks (suc k) s ≡ blocks k s ++ (take blockSize (drop (blockSize * k) s) ∷ [])
 unfolding blocks
 blocks-last zero s = refl
 blocks-last (suc k) s =
-    let z : 128 + 128 * k ≡ 128 * suc k = omega arith in
-    ap (λ (bs : List (List ℕ)). take 128 s ∷ bs) (blocks-last k (drop 128 s) ∙ rw (drop-drop, z))
+    let z : blockSize + blockSize * k ≡ blockSize * suc k = omega arith in
+    ap (λ (bs : List (List ℕ)). take blockSize s ∷ bs) (blocks-last k (drop blockSize s) ∙ rw (drop-drop, z))
 
-module _ {A : Type 0} (f : Format) (rule : OpenSet → Refusal) (add : OpenSet → A → A) where
+module _ {A : Type 0} (f : Format) (rule : BlockSet → Refusal) (add : BlockSet → A → A) where
   pub steps-append :
       (k : ℕ) (o : Outcome A) (bs cs : List (List ℕ))
       → steps f rule add k o (bs ++ cs) ≡ steps f rule add (k + length bs) (steps f rule add k o bs) cs
@@ -56,8 +56,8 @@ module _ {A : Type 0} (f : Format) (rule : OpenSet → Refusal) (add : OpenSet �
     unfolding walk blockAt steps
     walk-more k =
         let z : 0 + k ≡ k = omega arith in
-        rw (add-one, blocks-last k (drop 1024 file), drop-drop)
-        (steps-append 0 _ (blocks k (drop 1024 file)) _ ∙ rw (blocks-length k (drop 1024 file), z))
+        rw (add-one, blocks-last k (drop gsiSize file), drop-drop)
+        (steps-append 0 _ (blocks k (drop gsiSize file)) _ ∙ rw (blocks-length k (drop gsiSize file), z))
 
     -- a refusal stays
     stays-by : {r : Refusal} (k d : ℕ) → walk f rule add x file k ≡ refused r → walk f rule add x file (d + k) ≡ refused r

@@ -18,8 +18,8 @@ use Rattle.meaning.specs.declared.Format.{Format}
 use Rattle.meaning.specs.Refusals.{noRefusal, isGood, firstBroken}
 use Rattle.meaning.specs.Codes.{tokens}
 use Rattle.meaning.specs.Rows.{textRule}
-use Rattle.meaning.specs.Blocks.{blocks, headerOf, blockText, isComment, subtitleRules, firstBlockRules}
-use Rattle.meaning.specs.Sets.{OpenSet, Assembly, Event, noBlocks, unless, closeAtLast, opening, goesOn, continuing, isUser, advance}
+use Rattle.meaning.specs.Blocks.{gsiSize, textSize, blocks, headerOf, blockText, isComment, subtitleRules, firstBlockRules}
+use Rattle.meaning.specs.Sets.{BlockSet, Assembly, Event, noBlocks, unless, closeAtLast, opening, goesOn, continuing, isUser, advance}
 use Rattle.meaning.specs.Sets.Event.{broken, pending, closed}
 use Rattle.meaning.specs.Walk.{noCounts, total, counted, isOpen, begun, Progress, Outcome, finish, judge, step, walk, setRule, Subtitle, subtitleOf, subtitlesFrom, withSubtitles}
 use Rattle.meaning.specs.Walk.Outcome.{refused, accepted}
@@ -39,8 +39,8 @@ total-counted inSet h c =
     (λ u. by-test inSet (λ i. rw (u, i) (omega arith)) (λ i. by-test (isComment h) (λ k. rw (u, i, k) (omega arith)) (λ k. rw (u, i, k) (omega arith))))
 
 -- a set that can go on: its text is that of blocks 00h to its last
-pub record Short (s : OpenSet) : Type 0 where
-  pub size : length (s .text) ≤ 112 * suc (s .last)
+pub record Short (s : BlockSet) : Type 0 where
+  pub size : length (s .text) ≤ textSize * suc (s .last)
   pub last : s .last < 240
 
 -- a set's first header: of one of the file's blocks, and within the rules 8 to 12
@@ -86,7 +86,7 @@ first-numbered : (f : Format) (least : ℕ) (h : Header) → Numbered (firstBloc
 unfolding firstBlockRules subtitleRules
 first-numbered f least h = by-test (isComment h) (λ e. rw e (omega arith)) (λ e. rw e (omega arith))
 
-text-known : (f : Format) (s : OpenSet) → isGood (setRule f s) ≡ false → Known (setRule f s)
+text-known : (f : Format) (s : BlockSet) → isGood (setRule f s) ≡ false → Known (setRule f s)
 unfolding setRule textRule noRefusal isGood
 text-known f s e =
     by-test (isComment (s .first))
@@ -106,7 +106,7 @@ Tells (broken r) = isGood r ≡ false
 Tells (pending a) = Unit {0}
 Tells (closed s a) = Unit {0}
 
-last-tells : (s : OpenSet) (least : ℕ) → Tells (closeAtLast s least)
+last-tells : (s : BlockSet) (least : ℕ) → Tells (closeAtLast s least)
 unfolding closeAtLast
 last-tells s least = by-test (eqb (s .last) 255) (λ t. rw (t, closeAtLast) tt) (λ t. rw (t, closeAtLast) tt)
 
@@ -124,15 +124,15 @@ pub broken-bad : (f : Format) (place : ℕ) (b : List ℕ) (a : Assembly) {r : R
 broken-bad f place b a e = rw e at (advance-tells f place b a)
 
 -- the set that stays open is short
-abbrev pub Fits : Assembly → Type 0
-Fits a = (s : OpenSet) → a .current ≡ some s → Short s
+abbrev pub Bounded : Assembly → Type 0
+Bounded a = (s : BlockSet) → a .current ≡ some s → Short s
 
-abbrev pub FitsAfter : Event → Type 0
-FitsAfter (broken r) = Unit {0}
-FitsAfter (pending a) = Fits a
-FitsAfter (closed s a) = a .current ≡ none
+abbrev pub BoundedAfter : Event → Type 0
+BoundedAfter (broken r) = Unit {0}
+BoundedAfter (pending a) = Bounded a
+BoundedAfter (closed s a) = a .current ≡ none
 
-last-fits : (s : OpenSet) (least : ℕ) → ((s .last ≡ 255 → ⊥) → Short s) → FitsAfter (closeAtLast s least)
+last-fits : (s : BlockSet) (least : ℕ) → ((s .last ≡ 255 → ⊥) → Short s) → BoundedAfter (closeAtLast s least)
 unfolding closeAtLast
 last-fits s least h =
     by-test (eqb (s .last) 255)
@@ -140,10 +140,10 @@ last-fits s least h =
     (λ t. rw (t, closeAtLast) (λ q g. (let z : s ≡ q = cc in subst Short z (h (eqb-false (s .last) 255 t)))))
 
 module _ (f : Format) (place : ℕ) (b : List ℕ) where
-  opening-fits : (least : ℕ) → FitsAfter (opening f place (headerOf b) (blockText b) least)
+  opening-fits : (least : ℕ) → BoundedAfter (opening f place (headerOf b) (blockText b) least)
   unfolding opening
   opening-fits least =
-      by-rules FitsAfter place _ _
+      by-rules BoundedAfter place _ _
       (λ t.
       last-fits _ _
       (λ n.
@@ -151,10 +151,10 @@ module _ (f : Format) (place : ℕ) (b : List ℕ) where
       record { size = omega (arith, text-short b); last = omega (arith, o) }))
       (λ t. tt)
 
-  continuing-fits : (least : ℕ) (s : OpenSet) → Short s → FitsAfter (continuing place (headerOf b) (blockText b) s least)
+  continuing-fits : (least : ℕ) (s : BlockSet) → Short s → BoundedAfter (continuing place (headerOf b) (blockText b) s least)
   unfolding continuing goesOn
   continuing-fits least s h =
-      by-rules FitsAfter place _ _
+      by-rules BoundedAfter place _ _
       (λ t.
       last-fits _ _
       (λ n.
@@ -167,7 +167,7 @@ module _ (f : Format) (place : ℕ) (b : List ℕ) where
       }))
       (λ t. tt)
 
-  pub advance-fits : (a : Assembly) → Fits a → FitsAfter (advance f place b a)
+  pub advance-fits : (a : Assembly) → Bounded a → BoundedAfter (advance f place b a)
   unfolding advance
   advance-fits a h =
       by-test (isUser (headerOf b))
@@ -177,14 +177,14 @@ module _ (f : Format) (place : ℕ) (b : List ℕ) where
 -- after n blocks, whatever is gathered: they are counted, and the set that is open is short
 pub record Within {A : Type 0} (n : ℕ) (p : Progress A) : Type 0 where
   pub counts : total (p .counts) ≡ n
-  pub fits : Fits (p .assembly)
+  pub fits : Bounded (p .assembly)
 
 abbrev pub WithinIf : {A : Type 0} → ℕ → Outcome A → Type 0
 WithinIf n (refused r) = Unit {0}
 WithinIf n (accepted p) = Within n p
 
-module _ {A : Type 0} (f : Format) (rule : OpenSet → Refusal) (add : OpenSet → A → A) where
-  judge-within : (n : ℕ) (c : Counts) (x : A) (e : Event) → total c ≡ n → FitsAfter e → WithinIf n (judge f rule add c x e)
+module _ {A : Type 0} (f : Format) (rule : BlockSet → Refusal) (add : BlockSet → A → A) where
+  judge-within : (n : ℕ) (c : Counts) (x : A) (e : Event) → total c ≡ n → BoundedAfter e → WithinIf n (judge f rule add c x e)
   unfolding judge
   judge-within n c x (broken r) t h = tt
   judge-within n c x (pending a) t h = record { counts = t; fits = h }
@@ -208,18 +208,18 @@ module _ {A : Type 0} (f : Format) (rule : OpenSet → Refusal) (add : OpenSet �
   pub walk-within : (x : A) (file : List ℕ) (n : ℕ) → WithinIf n (walk f rule add x file n)
   unfolding walk
   walk-within x file n =
-      let z : 0 + length (blocks n (drop 1024 file)) ≡ n = omega (arith, blocks-length n (drop 1024 file)) in
-      rw z at (steps-keep f rule add Any WithinIf step-within 0 (accepted (begun x)) (blocks n (drop 1024 file)) (any-blocks _) (start-within x))
+      let z : 0 + length (blocks n (drop gsiSize file)) ≡ n = omega (arith, blocks-length n (drop gsiSize file)) in
+      rw z at (steps-keep f rule add Any WithinIf step-within 0 (accepted (begun x)) (blocks n (drop gsiSize file)) (any-blocks _) (start-within x))
 
 module _ (Block : List ℕ → Type 0) (f : Format) where
   -- a set: the subtitles before it are below it, and it is below what comes next
-  pub record Open (ss : List Subtitle) (least : ℕ) (s : OpenSet) : Type 0 where
+  pub record Open (ss : List Subtitle) (least : ℕ) (s : BlockSet) : Type 0 where
     pub opened : Opened Block f (s .first)
     pub above : Ascends 0 ss (s .first .sn)
     pub below : suc (s .first .sn) ≤ least
 
   pub record Ready (ss : List Subtitle) (a : Assembly) : Type 0 where
-    pub current : (s : OpenSet) → a .current ≡ some s → Open ss (a .least) s
+    pub current : (s : BlockSet) → a .current ≡ some s → Open ss (a .least) s
     pub order : Ascends 0 ss (a .least)
 
   -- after n blocks
@@ -239,7 +239,7 @@ module _ (Block : List ℕ → Type 0) (f : Format) where
   Moved ss (pending a) = Ready ss a
   Moved ss (closed s a) = Open ss (a .least) s × (a .current ≡ none)
 
-  last-kept : (ss : List Subtitle) (s : OpenSet) (least : ℕ) → Open ss least s → Moved ss (closeAtLast s least)
+  last-kept : (ss : List Subtitle) (s : BlockSet) (least : ℕ) → Open ss least s → Moved ss (closeAtLast s least)
   unfolding closeAtLast
   last-kept ss s least o =
       by-test (eqb (s .last) 255)
@@ -247,7 +247,7 @@ module _ (Block : List ℕ → Type 0) (f : Format) where
       (λ e.
       rw (e, closeAtLast)
       (record {
-        current = λ q g. (let z : s ≡ q = cc in subst (λ (x : OpenSet). Open ss least x) z o);
+        current = λ q g. (let z : s ≡ q = cc in subst (λ (x : BlockSet). Open ss least x) z o);
         order = ascends-more 0 ss _ _ (o .above) (omega (arith, o .below));
       }))
 
@@ -266,7 +266,7 @@ module _ (Block : List ℕ → Type 0) (f : Format) where
         }))
         (λ t. broken-known place _ (omega arith, omega arith, first-numbered f (a .least) (headerOf b)) t)
 
-    continuing-kept : (s : OpenSet) → Open ss (a .least) s → Moved ss (continuing place (headerOf b) (blockText b) s (a .least))
+    continuing-kept : (s : BlockSet) → Open ss (a .least) s → Moved ss (continuing place (headerOf b) (blockText b) s (a .least))
     unfolding continuing
     continuing-kept s o =
         by-rules (Moved ss) place _ _
@@ -282,7 +282,7 @@ module _ (Block : List ℕ → Type 0) (f : Format) where
 
   -- the subtitles that a closed set within the rules leaves
   closed-held :
-      (n : ℕ) (c : Counts) (ss : List Subtitle) (s : OpenSet) (a : Assembly) → length ss < n → All (Made Block f) ss → Open ss (a .least) s
+      (n : ℕ) (c : Counts) (ss : List Subtitle) (s : BlockSet) (a : Assembly) → length ss < n → All (Made Block f) ss → Open ss (a .least) s
       → a .current ≡ none → isGood (setRule f s) ≡ true
       → Held n (record { assembly = a; counts = c; gathered = withSubtitles f s ss })
   unfolding withSubtitles setRule subtitlesFrom subtitleOf
@@ -331,8 +331,8 @@ module _ (Block : List ℕ → Type 0) (f : Format) where
       record { few = omega arith; made = nil; ready = record { current = λ s g. absurd (none-not-some g); order = omega arith } }
 
   pub walk-kept :
-      (file : List ℕ) (n : ℕ) → All Block (blocks n (drop 1024 file)) → Kept n (finish n (walk f (setRule f) (withSubtitles f) [] file n))
+      (file : List ℕ) (n : ℕ) → All Block (blocks n (drop gsiSize file)) → Kept n (finish n (walk f (setRule f) (withSubtitles f) [] file n))
   unfolding walk
   walk-kept file n k =
-      let z : 0 + length (blocks n (drop 1024 file)) ≡ n = omega (arith, blocks-length n (drop 1024 file)) in
-      finish-kept n _ (rw z at (steps-keep f (setRule f) (withSubtitles f) Block Kept step-kept 0 (accepted (begun [])) (blocks n (drop 1024 file)) k start-held))
+      let z : 0 + length (blocks n (drop gsiSize file)) ≡ n = omega (arith, blocks-length n (drop gsiSize file)) in
+      finish-kept n _ (rw z at (steps-keep f (setRule f) (withSubtitles f) Block Kept step-kept 0 (accepted (begun [])) (blocks n (drop gsiSize file)) k start-held))

@@ -5,10 +5,18 @@ use native.Mathlib.Omega.{arith}
 use mathlib.Core.Path.{_≡_, refl, sym, _∙_}
 use mathlib.Core.Bool.{Bool, true, false}
 use mathlib.Core.List.{List, [], _∷_}
-use borrow.Author.Tests.{ne-eqb}
+use borrow.Author.Tests.{eq-eqb, ne-eqb}
 use Rattle.meaning.specs.declared.Refusal.{Refusal}
 use Rattle.meaning.specs.Refusals.{noRefusal, isGood, firstBroken, inTurn}
 use Rattle.meaning.proofs.Logic.{by-test, false-not-true}
+
+pub good-number : (r : Refusal) → r .number ≡ 0 → isGood r ≡ true
+unfolding isGood
+good-number r e = eq-eqb (r .number) 0 e
+
+pub bad-number : (r : Refusal) → (r .number ≡ 0 → ⊥) → isGood r ≡ false
+unfolding isGood
+bad-number r e = ne-eqb (r .number) 0 e
 
 -- no rule of a list is broken
 abbrev pub Holds : ℕ → List (ℕ × Bool) → Type 0

@@ -11,14 +11,24 @@ use Rattle.meaning.specs.declared.Screen.{Screen}
 use Rattle.meaning.specs.declared.Format.{Format}
 use Rattle.meaning.specs.Lists.{takeWhile, field}
 
+-- the bytes of the GSI block, of a TTI block after it, and of a TTI block's text
+abbrev pub gsiSize : ℕ
+gsiSize = 1024
+
+abbrev pub blockSize : ℕ
+blockSize = 128
+
+abbrev pub textSize : ℕ
+textSize = 112
+
 -- n blocks, one after another
 unfoldable pub blocks : ℕ → List ℕ → List (List ℕ)
 blocks zero s = []
-blocks (suc n) s = take 128 s ∷ blocks n (drop 128 s)
+blocks (suc n) s = take blockSize s ∷ blocks n (drop blockSize s)
 
--- the block of a file at a place: its 128 bytes, fewer where the file ends in it
+-- the block of a file at a place: its bytes, fewer where the file ends in it
 unfoldable pub blockAt : List ℕ → ℕ → List ℕ
-blockAt file k = take 128 (drop (1024 + 128 * k) file)
+blockAt file k = take blockSize (drop (gsiSize + blockSize * k) file)
 
 -- a time: four bytes from an offset
 unfoldable pub timeAt : ℕ → List ℕ → Time
@@ -45,7 +55,7 @@ inText c = not (eqb c 143)
 
 -- a block's text, 16 to 127: the bytes before the first 8Fh, all 112 if there is none
 unfoldable pub blockText : List ℕ → List ℕ
-blockText b = takeWhile inText (field 16 112 b)
+blockText b = takeWhile inText (field 16 textSize b)
 
 unfoldable pub timeInRange : ℕ → Time → Bool
 timeInRange rate t = ltb (t .hours) 24 && ltb (t .minutes) 60 && ltb (t .seconds) 60 && ltb (t .frames) rate

@@ -1,4 +1,4 @@
--- One name that opens every definition, for tests that compute.
+-- One name that opens every definition that a document or an answer is computed by, for tests.
 -- Assumes nothing.
 use Rattle.meaning.specs.Lists.{all, any, keep, takeWhile, ontoFirst, later, joinMap, field, joined, same, upFrom, bytes}
 use Rattle.meaning.specs.Refusals.{noRefusal, isGood, firstBroken}

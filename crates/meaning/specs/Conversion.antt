@@ -13,6 +13,7 @@ use Rattle.meaning.specs.Rows.{linesOf, rowCount}
 use Rattle.meaning.specs.Cells.{Cell, points, shown}
 use Rattle.meaning.specs.Spans.{spans, lookOf}
 use Rattle.meaning.specs.declared.Format.{Format}
+use Rattle.meaning.specs.declared.Header.{Header}
 use Rattle.meaning.specs.Gsi.{formatOf}
 use Rattle.meaning.specs.declared.Refusal.{Refusal}
 use Rattle.meaning.specs.declared.Counts.{Counts}
@@ -52,15 +53,13 @@ alignmentOf (suc zero) = left
 alignmentOf (suc (suc zero)) = centre
 alignmentOf (suc (suc (suc n))) = right
 
+-- the paragraph of a set, by the header of its first block
+abbrev pub paragraphWith : Header → List Piece → Paragraph
+paragraphWith h ps =
+    record { number = h .sn; begin = h .tci; end = h .tco; alignment = alignmentOf (h .jc); pieces = ps }
+
 unfoldable pub paragraphOf : Format → Subtitle → Paragraph
-paragraphOf f s =
-    record {
-      number = s .first .sn;
-      begin = s .first .tci;
-      end = s .first .tco;
-      alignment = alignmentOf (s .first .jc);
-      pieces = pieces (f .screen .end) (s .first .vp) (s .double) (s .rows);
-    }
+paragraphOf f s = paragraphWith (s .first) (pieces (f .screen .end) (s .first .vp) (s .double) (s .rows))
 
 -- every subtitle is one paragraph, in order
 unfoldable pub documentOf : Format → List Subtitle → Document

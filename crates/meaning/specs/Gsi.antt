@@ -10,6 +10,7 @@ use Rattle.meaning.specs.declared.Format.{Format}
 use Rattle.meaning.specs.declared.Refusal.{Refusal}
 use Rattle.meaning.specs.Lists.{all, field, same, bytes}
 use Rattle.meaning.specs.Refusals.{firstBroken}
+use Rattle.meaning.specs.Blocks.{gsiSize, blockSize}
 
 -- DFC, 3 to 10: the frames of a second, 0 where it is neither of the two
 unfoldable pub rateOf : List ℕ → ℕ
@@ -32,7 +33,7 @@ formatOf mode file = record { mode = mode; rate = rateOf file; screen = teletext
 
 -- the blocks present
 unfoldable pub blockCount : List ℕ → ℕ
-blockCount file = (length file - 1024) / 128
+blockCount file = (length file - gsiSize) / blockSize
 
 unfoldable pub isDigit : ℕ → Bool
 isDigit c = leb 48 c && leb c 57
@@ -51,7 +52,7 @@ unfoldable pub fileRule : ℕ → List ℕ → Refusal
 fileRule mode file =
     firstBroken 0
     ((1, eqb mode 1 || eqb mode 2)
-    ∷ (2, leb 1024 (length file) && eqb ((length file - 1024) % 128) 0)
+    ∷ (2, leb gsiSize (length file) && eqb ((length file - gsiSize) % blockSize) 0)
     ∷ (3, isRate (rateOf file))
     ∷ (4, eqb (getD file 11 0) 49 || eqb (getD file 11 0) 50)
     ∷ (5, same (field 12 2 file) (bytes "00"))

@@ -24,8 +24,11 @@ unfoldable pub isDouble : List Token → Bool
 isDouble ts = any isDoubleHeight (getD (splitRows ts) 0 [])
 
 -- in break mode 2 and double height a pair of 8Ah ends a row
+abbrev pub isPaired : ℕ → Bool → Bool
+isPaired mode double = eqb mode 2 && double
+
 unfoldable pub breaksPaired : ℕ → List Token → Bool
-breaksPaired mode ts = eqb mode 2 && isDouble ts
+breaksPaired mode ts = isPaired mode (isDouble ts)
 
 -- of each pair of row ends the first; `second` tells that the next row end is the second of its pair
 unfoldable pub pairedFrom : Bool → List Token → List Token

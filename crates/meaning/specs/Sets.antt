@@ -12,7 +12,7 @@ use Rattle.meaning.specs.Refusals.{isGood, firstBroken}
 use Rattle.meaning.specs.Blocks.{headerOf, blockText, firstBlockRules}
 
 -- a set so far: its first block's place and header, the EBN of its last block, and its text
-pub record OpenSet : Type 0 where
+pub record BlockSet : Type 0 where
   pub place : ℕ
   pub first : Header
   pub last : ℕ
@@ -21,13 +21,13 @@ pub record OpenSet : Type 0 where
 -- what is known after some blocks: the least SN that the next set may have, and the set that is not closed yet
 pub record Assembly : Type 0 where
   pub least : ℕ
-  pub current : Option OpenSet
+  pub current : Option BlockSet
 
 -- what one block brings: a broken rule, no closed set, or one
 pub data Event : Type 0 where
   broken : Refusal → Event
   pending : Assembly → Event
-  closed : OpenSet → Assembly → Event
+  closed : BlockSet → Assembly → Event
 
 unfoldable pub noBlocks : Assembly
 noBlocks = record { least = 0; current = none }
@@ -37,7 +37,7 @@ unfoldable pub unless : Refusal → Event → Event
 unless r e = elim (isGood r) [ true ↦ e | false ↦ broken r ]
 
 -- a set with one block more: EBN FFh closes it
-unfoldable pub closeAtLast : OpenSet → ℕ → Event
+unfoldable pub closeAtLast : BlockSet → ℕ → Event
 closeAtLast s least =
     elim (eqb (s .last) 255) [
       | true ↦ closed s (record { least = least; current = none })
@@ -59,7 +59,7 @@ unfoldable pub agrees : Header → Header → Bool
 agrees first h = eqb (h .sgn) (first .sgn) && eqb (h .sn) (first .sn) && eqb (h .cf) (first .cf)
 
 -- a block of an open set
-unfoldable pub continuing : ℕ → Header → List ℕ → OpenSet → ℕ → Event
+unfoldable pub continuing : ℕ → Header → List ℕ → BlockSet → ℕ → Event
 continuing place h text s least =
     unless (firstBroken place ((7, goesOn (s .last) (h .ebn)) ∷ (7, agrees (s .first) h) ∷ []))
     (closeAtLast (record { place = s .place; first = s .first; last = h .ebn; text = s .text ++ text }) least)

@@ -16,8 +16,8 @@ use Rattle.meaning.specs.Codes.{tokens}
 use Rattle.meaning.specs.Rows.{rows, isDouble, textRule}
 use Rattle.meaning.specs.Cells.{Cell, newPen, cellRows}
 use Rattle.meaning.specs.Gsi.{formatOf, blockCount, fileRule}
-use Rattle.meaning.specs.Blocks.{blocks, headerOf, isComment}
-use Rattle.meaning.specs.Sets.{OpenSet, Assembly, Event, noBlocks, isUser, advance}
+use Rattle.meaning.specs.Blocks.{gsiSize, blocks, headerOf, isComment}
+use Rattle.meaning.specs.Sets.{BlockSet, Assembly, Event, noBlocks, isUser, advance}
 use Rattle.meaning.specs.Sets.Event.{broken, pending, closed}
 
 unfoldable pub noCounts : Counts
@@ -61,7 +61,7 @@ finish count (refused r) = refused r
 finish count (accepted p) = elim (isOpen (p .assembly)) [ true ↦ refused (record { number = 7; place = count }) | false ↦ accepted p ]
 
 -- a rule over closed sets, and how a set that keeps it is gathered
-module _ {A : Type 0} (f : Format) (rule : OpenSet → Refusal) (add : OpenSet → A → A) where
+module _ {A : Type 0} (f : Format) (rule : BlockSet → Refusal) (add : BlockSet → A → A) where
   -- a closed set is judged
   unfoldable pub judge : Counts → A → Event → Outcome A
   judge c x (broken r) = refused r
@@ -85,10 +85,10 @@ module _ {A : Type 0} (f : Format) (rule : OpenSet → Refusal) (add : OpenSet �
 
   -- the first n blocks of a file, from what was gathered before them
   unfoldable pub walk : A → List ℕ → ℕ → Outcome A
-  walk x file n = steps 0 (accepted (begun x)) (blocks n (drop 1024 file))
+  walk x file n = steps 0 (accepted (begun x)) (blocks n (drop gsiSize file))
 
 -- the first of the rules 13 to 15 that a closed set breaks; a comment is not tested
-unfoldable pub setRule : Format → OpenSet → Refusal
+unfoldable pub setRule : Format → BlockSet → Refusal
 setRule f s = cond (isComment (s .first)) noRefusal (textRule f (s .place) (s .first .vp) (tokens (s .text)))
 
 -- a subtitle set: its first block's header, and its rows of cells
@@ -101,10 +101,10 @@ unfoldable pub subtitleOf : ℕ → Header → List Token → Subtitle
 subtitleOf mode first ts = record { first = first; double = isDouble ts; rows = cellRows (newPen (isDouble ts)) (rows mode ts) }
 
 -- what a closed set adds: a comment nothing
-unfoldable pub subtitlesFrom : Format → OpenSet → List Subtitle
+unfoldable pub subtitlesFrom : Format → BlockSet → List Subtitle
 subtitlesFrom f s = cond (isComment (s .first)) [] (subtitleOf (f .mode) (s .first) (tokens (s .text)) ∷ [])
 
-unfoldable pub withSubtitles : Format → OpenSet → List Subtitle → List Subtitle
+unfoldable pub withSubtitles : Format → BlockSet → List Subtitle → List Subtitle
 withSubtitles f s ss = ss ++ subtitlesFrom f s
 
 -- the rules 1 to 15 over a whole file, and its subtitles in order

@@ -6,7 +6,14 @@ ghost use Rattle.meaning.specs.Blocks.{isComment};
 ghost use Rattle.meaning.specs.Sets.{isUser};
 ghost use Rattle.meaning.specs.Looks.{pack, unpack, shared, free, blend};
 ghost use Rattle.meaning.specs.Cells.{newPen};
-ghost use Rattle.meaning.specs.Rows.{linesOf};
+ghost use Rattle.meaning.specs.Rows.{isPaired, linesOf};
+
+// The bytes of the GSI block, of a TTI block after it, and of a TTI block's text.
+pub const GSI_SIZE: usize = 1024;
+
+pub const BLOCK_SIZE: usize = 128;
+
+pub const TEXT_SIZE: usize = 112;
 
 // The rule that a file breaks, and the block where. Number 0 at place 0: no rule is broken.
 pub struct Refusal {
@@ -101,6 +108,15 @@ pub struct Format {
     pub mode: u64,
     pub rate: u8,
     pub screen: Screen,
+}
+
+impl Format {
+    // Whether a pair of 8Ah ends a row of a subtitle.
+    pub fn is_paired(self, double: bool) -> bool
+        ensures { λ r. ⌜ r ≡ isPaired (self .mode) double ⌝ }
+    {
+        (self.mode == 2) & double
+    }
 }
 
 // What one code of a text, or an accent with its letter, stands for.

@@ -42,7 +42,7 @@ struct TextFacts {
 const COUNT_LIMIT: u32 = 256;
 
 // A count of cells or rows with some more, up to the limit.
-pub fn counted(n: u32, more: usize) -> u32
+pub fn capped_sum(n: u32, more: usize) -> u32
     ensures { λ r. ⌜ r ≡ min (n + more) countLimit ⌝ }
 {
     if COUNT_LIMIT <= n {
@@ -93,7 +93,7 @@ impl RowFacts {
         ensures { λ r. ⌜ r ≡ withToken self t ⌝ }
     {
         let mut f = self;
-        f.cells = counted(self.cells, 1);
+        f.cells = capped_sum(self.cells, 1);
         match t {
             Token::Character(_) => {
                 f.character = true;
@@ -119,7 +119,7 @@ impl RowFacts {
         ensures { λ r. ⌜ r ≡ withCharacters self n ⌝ }
     {
         let mut f = self;
-        f.cells = counted(self.cells, n);
+        f.cells = capped_sum(self.cells, n);
         f.character = self.character | (0 < n);
         f
     }
@@ -146,7 +146,7 @@ impl TextFacts {
             height: f.height | self.height,
             ordered: f.ordered & self.ordered,
             short: (f.cells as usize <= Rows::LONGEST) & self.short,
-            rows: counted(self.rows, 1),
+            rows: capped_sum(self.rows, 1),
         }
     }
 }
@@ -178,7 +178,7 @@ fn scan_row(text: &[u8], start: usize) -> RowScan
     }
 }
 
-// The row after a row end: whether the run of row ends before it is even, where they are paired, and where it starts.
+// The row after a row end: where it starts, and whether a second row end stands before it, where they are paired.
 struct NextRow {
     even: bool,
     start: usize,
@@ -281,7 +281,7 @@ pub fn text_rule(text: &[u8], f: Format, place: u64, vp: u8) -> Refusal
     let first = scan_row(text, 0);
     let facts = first.facts;
     let double = facts.height;
-    let paired = (f.mode == 2) & double;
+    let paired = f.is_paired(double);
     let scan = scan_after(text, paired, first);
     let all = scan.facts;
     rule_of(all, double, scan.even, f, place, vp)

@@ -15,7 +15,7 @@ use Rattle.meaning.specs.declared.Header.{Header}
 use Rattle.meaning.specs.declared.Format.{Format}
 use Rattle.meaning.specs.Refusals.{noRefusal, isGood, firstBroken, inTurn}
 use Rattle.meaning.specs.Blocks.{headerOf, blockText, firstBlockRules}
-use Rattle.meaning.specs.Sets.{OpenSet, Event, unless, closeAtLast, opening, goesOn, agrees, continuing, isUser, advance}
+use Rattle.meaning.specs.Sets.{BlockSet, Event, unless, closeAtLast, opening, goesOn, agrees, continuing, isUser, advance}
 use Rattle.meaning.specs.Sets.Event.{broken}
 use Rattle.meaning.proofs.Logic.{by-test}
 use Rattle.meaning.proofs.RefusalLaws.{in-turn}
@@ -58,7 +58,7 @@ module _ (f : Format) (place : ℕ) (h : Header) (text : List ℕ) (least : ℕ)
     opening-good z = rw rules (unless-good r _ z)
 
 -- a block of the open set, by the tests of rule 7
-module _ (place : ℕ) (h : Header) (text : List ℕ) (s : OpenSet) (least : ℕ) {a b : Bool} {q r : Refusal} (d : a ≡ goesOn (s .last) (h .ebn)) (e : q ≡ inTurn noRefusal place 7 a) (d′ : b ≡ agrees (s .first) h) (e′ : r ≡ inTurn q place 7 b) where
+module _ (place : ℕ) (h : Header) (text : List ℕ) (s : BlockSet) (least : ℕ) {a b : Bool} {q r : Refusal} (d : a ≡ goesOn (s .last) (h .ebn)) (e : q ≡ inTurn noRefusal place 7 a) (d′ : b ≡ agrees (s .first) h) (e′ : r ≡ inTurn q place 7 b) where
   rule : firstBroken place ((7, goesOn (s .last) (h .ebn)) ∷ (7, agrees (s .first) h) ∷ []) ≡ r
   rule = rw (e′, d′, e, d) (sym (in-turn place _ (omega arith)))
 
@@ -76,8 +76,8 @@ module _ (place : ℕ) (h : Header) (text : List ℕ) (s : OpenSet) (least : ℕ
 pub room-none : (room at n : ℕ) → room < at → false ≡ leb (at + n) room
 room-none room at n h = sym (lt-leb (at + n) room (omega arith))
 
-pub room-left : (room at n : ℕ) → at ≤ room → leb n (room - at) ≡ leb (at + n) room
-room-left room at n h =
+pub room-after : (room at n : ℕ) → at ≤ room → leb n (room - at) ≡ leb (at + n) room
+room-after room at n h =
     by-test (leb (at + n) room)
     (λ e. rw e (le-leb n (room - at) (omega (arith, leb-true (at + n) room e))))
     (λ e. rw e (lt-leb n (room - at) (omega (arith, leb-false (at + n) room e))))
@@ -99,7 +99,7 @@ module _ (n : ℕ) (text : List ℕ) where
   abbrev Brought : Event → Type 0
   Brought e = eventOf (stepOf n e) text ≡ some e
 
-  brought-closing : (s : OpenSet) (least : ℕ) → s .text ≡ take n text → Brought (closeAtLast s least)
+  brought-closing : (s : BlockSet) (least : ℕ) → s .text ≡ take n text → Brought (closeAtLast s least)
   unfolding closeAtLast stepOf sizedSets sizedCurrent sizedSet eventOf assemblyOf currentOf setOf setWith
   brought-closing s least h = by-test (eqb (s .last) 255) (λ e. rw (e, closeAtLast, sym h)) (λ e. rw (e, closeAtLast, sym h))
 
@@ -111,7 +111,7 @@ module _ (n : ℕ) (text : List ℕ) where
   unfolding opening
   brought-opening f place h part least e = brought-unless _ _ (brought-closing _ _ e)
 
-  brought-continuing : (place : ℕ) (h : Header) (part : List ℕ) (s : OpenSet) (least : ℕ) → s .text ++ part ≡ take n text → Brought (continuing place h part s least)
+  brought-continuing : (place : ℕ) (h : Header) (part : List ℕ) (s : BlockSet) (least : ℕ) → s .text ++ part ≡ take n text → Brought (continuing place h part s least)
   unfolding continuing
   brought-continuing place h part s least e = brought-unless _ _ (brought-closing _ _ e)
 

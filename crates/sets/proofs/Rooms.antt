@@ -8,23 +8,23 @@ use mathlib.Core.List.{List}
 use mathlib.Core.Option.{some}
 use lib.ListN.{length, length-take}
 use borrow.Author.Tests.{le-leb}
-use Rattle.meaning.specs.Blocks.{headerOf, blockText}
-use Rattle.meaning.specs.Sets.{OpenSet, isUser}
+use Rattle.meaning.specs.Blocks.{textSize, headerOf, blockText}
+use Rattle.meaning.specs.Sets.{BlockSet, isUser}
 use Rattle.meaning.proofs.Logic.{by-test}
 use Rattle.meaning.proofs.Texts.{text-short}
-use Rattle.laws.proofs.Walk.{Short, Fits}
+use Rattle.laws.proofs.Walk.{Short, Bounded}
 use Rattle.sets.specs.declared.Current.{Current}
 use Rattle.sets.specs.declared.Current.the-variants.{Between, Open}
 use Rattle.sets.specs.declared.Sets.{Sets}
 use Rattle.sets.specs.Assembling.{textRoom, setOf, setWith, currentOf, assemblyOf, textEnd, hasRoom}
 
 -- a set that is short leaves room for the text of another block
-end-low : (c : Current) (text : List ℕ) → length text ≡ textRoom → ((s : OpenSet) → currentOf c text ≡ some s → Short s) → textEnd c + 112 ≤ textRoom
+end-low : (c : Current) (text : List ℕ) → length text ≡ textRoom → ((s : BlockSet) → currentOf c text ≡ some s → Short s) → textEnd c + textSize ≤ textRoom
 unfolding currentOf setOf setWith textEnd
 end-low Between text l h = omega arith
 end-low (Open s) text l h = let g = h _ refl in omega (arith, g .size, g .last, length-take (s .size) text)
 
-pub room-left : (b : List ℕ) (s : Sets) (text : List ℕ) → length text ≡ textRoom → Fits (assemblyOf s text) → hasRoom b s text ≡ true
+pub room-left : (b : List ℕ) (s : Sets) (text : List ℕ) → length text ≡ textRoom → Bounded (assemblyOf s text) → hasRoom b s text ≡ true
 unfolding hasRoom assemblyOf
 room-left b s text l h =
     by-test (isUser (headerOf b))

@@ -7,8 +7,8 @@ use mathlib.Core.Option.{Option, none, some}
 use lib.Dec.{leb}
 use lib.ListN.{length, take}
 use Rattle.meaning.specs.declared.Format.{Format}
-use Rattle.meaning.specs.Blocks.{headerOf, blockText}
-use Rattle.meaning.specs.Sets.{OpenSet, Assembly, Event, isUser, advance}
+use Rattle.meaning.specs.Blocks.{textSize, headerOf, blockText}
+use Rattle.meaning.specs.Sets.{BlockSet, Assembly, Event, isUser, advance}
 use Rattle.meaning.specs.Sets.Event.{broken, pending, closed}
 use Rattle.output.specs.Output.{stored}
 use Rattle.sets.specs.declared.Set.{Set}
@@ -18,19 +18,19 @@ use Rattle.sets.specs.declared.Sets.{Sets}
 use Rattle.sets.specs.declared.Step.{Step}
 use Rattle.sets.specs.declared.Step.the-variants.{NoRoom, Broken, Pending, Closed}
 
--- the longest text: 241 blocks of 112 bytes
+-- the longest text: that of 241 blocks
 abbrev pub textRoom : ℕ
-textRoom = 241 * 112
+textRoom = 241 * textSize
 
 -- a set with its text
-unfoldable pub setWith : Set → List ℕ → OpenSet
+unfoldable pub setWith : Set → List ℕ → BlockSet
 setWith s text = record { place = s .place; first = s .first; last = s .last; text = text }
 
 -- its text stands at the front of the text buffer
-unfoldable pub setOf : Set → List ℕ → OpenSet
+unfoldable pub setOf : Set → List ℕ → BlockSet
 setOf s text = setWith s (take (s .size) text)
 
-unfoldable pub currentOf : Current → List ℕ → Option OpenSet
+unfoldable pub currentOf : Current → List ℕ → Option BlockSet
 currentOf Between text = none
 currentOf (Open s) text = some (setOf s text)
 
@@ -58,10 +58,10 @@ unfoldable pub sizeAfter : List ℕ → Sets → ℕ
 sizeAfter b s = cond (isUser (headerOf b)) (textEnd (s .current)) (textEnd (s .current) + length (blockText b))
 
 -- the other way: a size stands for the text
-unfoldable pub sizedSet : ℕ → OpenSet → Set
+unfoldable pub sizedSet : ℕ → BlockSet → Set
 sizedSet n s = record { place = s .place; first = s .first; last = s .last; size = n }
 
-unfoldable pub sizedCurrent : ℕ → Option OpenSet → Current
+unfoldable pub sizedCurrent : ℕ → Option BlockSet → Current
 sizedCurrent n none = Between
 sizedCurrent n (some s) = Open (sizedSet n s)
 

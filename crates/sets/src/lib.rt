@@ -11,6 +11,7 @@ ghost use Rattle.sets.specs.Assembling.{setWith, assemblyOf, textEnd, st
 use meaning::Format;
 use meaning::Header;
 use meaning::Refusal;
+use meaning::TEXT_SIZE;
 
 // A set so far: the place and the header of its first block, the EBN of its last, and the size of its text.
 pub struct Set {
@@ -32,8 +33,8 @@ pub struct Sets {
 }
 
 impl Sets {
-    // The longest text: 241 blocks of 112 bytes.
-    pub const ROOM: usize = 241 * 112;
+    // The longest text: that of 241 blocks.
+    pub const ROOM: usize = 241 * TEXT_SIZE;
 
     // Before the first block.
     pub const NONE: Sets = Sets {

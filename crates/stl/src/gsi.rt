@@ -6,9 +6,12 @@ ghost use Prim.Native.Nat.{_-_, _%_, _≤_};
 ghost use lib.Dec.{leb, eqb};
 ghost use lib.ListN.{length, getD};
 ghost use Rattle.meaning.specs.Lists.{all, same};
+ghost use Rattle.meaning.specs.Blocks.{gsiSize, blockSize};
 ghost use Rattle.meaning.specs.Gsi.{rateOf, formatOf, blockCount, isDigit, valueFrom, fileRule};
 use block::field;
+use meaning::BLOCK_SIZE;
 use meaning::Format;
+use meaning::GSI_SIZE;
 use meaning::Refusal;
 use meaning::Screen;
 
@@ -56,10 +59,10 @@ pub fn format(file: &[u8], mode: u64) -> Format
 pub fn block_count(file: &[u8]) -> usize
     ensures { λ r. ⌜ r ≡ blockCount (now (file .entry)) ⌝ }
 {
-    if file.len() < 1024 {
+    if file.len() < GSI_SIZE {
         return 0;
     }
-    (file.len() - 1024) / 128
+    (file.len() - GSI_SIZE) / BLOCK_SIZE
 }
 
 // The byte at an offset, 0 past the end.
@@ -76,12 +79,12 @@ fn is_either(x: u64, a: u64, b: u64) -> bool
 }
 
 fn is_whole(size: usize) -> bool
-    ensures { λ r. ⌜ r ≡ (leb 1024 size && eqb ((size - 1024) % 128) 0) ⌝ }
+    ensures { λ r. ⌜ r ≡ (leb gsiSize size && eqb ((size - gsiSize) % blockSize) 0) ⌝ }
 {
-    if size < 1024 {
+    if size < GSI_SIZE {
         return false;
     }
-    (size - 1024) % 128 == 0
+    (size - GSI_SIZE) % BLOCK_SIZE == 0
 }
 
 fn is_digit(c: u8) -> bool

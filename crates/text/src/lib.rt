@@ -35,7 +35,7 @@ fn put_characters(out: &mut [u8], at: usize, characters: &[u16]) -> usize
     p
 }
 
-// A span is the one place where something is counted and marked.
+// Spans are counted, and their looks marked, here and nowhere else.
 fn put_span(out: &mut [u8], marks: &mut [bool], t: Tally, characters: &[u16], look: u16) -> Tally
     ensures { λ r. ⌜ PiecesLaid (now (out .entry)) (now (marks .entry)) t (span (record { look = look; characters = now (characters .entry) }) ∷ []) (now (out .exit)) (now (marks .exit)) r ⌝ }
 {
@@ -57,7 +57,7 @@ fn put_break(out: &mut [u8], at: usize) -> usize
     output::put(out, at, b"<tt:br/>")
 }
 
-// The filler lines between what a subtitle's rows cover and the end of the page.
+// The filler lines between what a subtitle's rows cover and the end of the screen.
 fn filler_lines(end: u8, vp: u8, covered: Lines) -> u64
     ensures { λ r. ⌜ r ≡ fillers end vp covered .0 ⌝ }
 {
@@ -169,7 +169,7 @@ fn lay_rows(
         pen = row.pen;
         more = row.ended;
         next = row.next;
-        rows = rows::counted(rows, 1);
+        rows = rows::capped_sum(rows, 1);
     }
     RowsLaid { tally, rows }
 }
@@ -188,7 +188,7 @@ pub fn put_content(
 {
     let screen = f.screen;
     let double = rows::is_double(text);
-    let paired = (f.mode == 2) & double;
+    let paired = f.is_paired(double);
     let laid = lay_rows(out, marks, t, text, Pen::new(double), paired);
     let lines = Rows(laid.rows).lines(double);
     let mut tally = laid.tally;

@@ -13,14 +13,14 @@ use Rattle.meaning.specs.declared.Counts.{Counts}
 use Rattle.meaning.specs.declared.Format.{Format}
 use Rattle.meaning.specs.Refusals.{isGood}
 use Rattle.meaning.specs.Blocks.{blocks, blockAt}
-use Rattle.meaning.specs.Sets.{OpenSet, Event, noBlocks, advance}
+use Rattle.meaning.specs.Sets.{BlockSet, Event, noBlocks, advance}
 use Rattle.meaning.specs.Sets.Event.{broken, pending, closed}
 use Rattle.meaning.specs.Walk.{begun, Progress, Outcome, judge, step, steps, walk}
 use Rattle.meaning.specs.Walk.Outcome.{refused, accepted}
 use Rattle.meaning.proofs.Logic.{by-test, none-not-some}
 use Rattle.laws.proofs.Steps.{walk-more}
 use Rattle.laws.proofs.Gathering.{refused-not}
-use Rattle.laws.proofs.Walk.{Fits, FitsAfter, advance-fits}
+use Rattle.laws.proofs.Walk.{Bounded, BoundedAfter, advance-fits}
 use Rattle.text.specs.declared.Tally.{Tally}
 use Rattle.sets.specs.declared.Set.{Set}
 use Rattle.sets.specs.declared.Current.the-variants.{Between}
@@ -31,65 +31,65 @@ use Rattle.sets.specs.Assembling.{textRoom, setOf, currentOf, assemblyOf, event
 use Rattle.sets.proofs.Laws.{same-event, step-event, text-kept}
 use Rattle.sets.proofs.Rooms.{room-left}
 use Rattle.writing.specs.declared.Writing.{Writing}
-use Rattle.closed.specs.Pages.{Page, laySet}
+use Rattle.closed.specs.Body.{Body, laySet}
 use Rattle.writing.specs.Laying.{Laying, layEvent, layBlocks, layingOf}
 
 -- one block more, by the step that it made
 module _ (f : Format) (place : ℕ) (b : List ℕ) (w : Writing) (text out : List ℕ) (marks : List Bool) {text′ : List ℕ} (room : hasRoom b (w .sets) text ≡ true) {st : Step} (m : (st ≡ stepIn f place b (w .sets) text) × (text′ ≡ textAfter b (w .sets) text)) where
   -- what is promised of the state after it
-  abbrev Laid : Laying → Type 0
-  Laid l = l ≡ layEvent f (layingOf w text out marks) (advance f place b (assemblyOf (w .sets) text))
+  abbrev Stepped : Laying → Type 0
+  Stepped l = l ≡ layEvent f (layingOf w text out marks) (advance f place b (assemblyOf (w .sets) text))
 
   event : eventOf st text′ ≡ some (advance f place b (assemblyOf (w .sets) text))
   event = rw (m .0, m .1) (step-event f place b (w .sets) text room)
 
-  pub on-full : st ≡ NoRoom → Laid (layingOf w text′ out marks)
+  pub on-full : st ≡ NoRoom → Stepped (layingOf w text′ out marks)
   unfolding eventOf
   on-full e = absurd (none-not-some (rw e at event))
 
-  pub on-broken : {q : Refusal} → st ≡ Broken q → Laid (layingOf w text′ out marks)
+  pub on-broken : {q : Refusal} → st ≡ Broken q → Stepped (layingOf w text′ out marks)
   unfolding eventOf layEvent layingOf
   on-broken e = rw (same-event (rw e at event), m .1, text-kept f place b (w .sets) text room)
 
-  pub on-pending : {s : Sets} → st ≡ Pending s → Laid (layingOf (record { sets = s; tally = w .tally }) text′ out marks)
+  pub on-pending : {s : Sets} → st ≡ Pending s → Stepped (layingOf (record { sets = s; tally = w .tally }) text′ out marks)
   unfolding eventOf layEvent layingOf
   on-pending e = rw (same-event (rw e at event))
 
   pub on-closed :
       {set : Set} {s : Sets} → st ≡ Closed set s → {out′ : List ℕ} {marks′ : List Bool} {u : Tally}
       → record { out = out′; marks = marks′; tally = u } ≡ laySet f (setOf set text′) (record { out = out; marks = marks; tally = w .tally })
-      → Laid (layingOf (record { sets = s; tally = u }) text′ out′ marks′)
+      → Stepped (layingOf (record { sets = s; tally = u }) text′ out′ marks′)
   unfolding eventOf layEvent layingOf
   on-closed {s = s} e l =
-      rw (same-event (rw e at event)) (ap (λ (p : Page). record { assembly = assemblyOf s text′; page = p }) l)
+      rw (same-event (rw e at event)) (ap (λ (p : Body). record { assembly = assemblyOf s text′; body = p }) l)
 
-module _ (f : Format) (file : List ℕ) (page : Page) where
+module _ (f : Format) (file : List ℕ) (body : Body) where
   -- the set that is open is short
-  event-fits : (l : Laying) (e : Event) → Fits (l .assembly) → FitsAfter e → Fits (layEvent f l e .assembly)
+  event-fits : (l : Laying) (e : Event) → Bounded (l .assembly) → BoundedAfter e → Bounded (layEvent f l e .assembly)
   unfolding layEvent
   event-fits l (broken r) h g = h
   event-fits l (pending a) h g = g
   event-fits l (closed s a) h g = λ q z. absurd (none-not-some (sym g ∙ z))
 
-  laying-fits : (k : ℕ) → Fits (layBlocks f file page k .assembly)
+  laying-fits : (k : ℕ) → Bounded (layBlocks f file body k .assembly)
   unfolding layBlocks noBlocks
   laying-fits zero = λ q z. absurd (none-not-some z)
   laying-fits (suc k) =
       let h = laying-fits k in
-      event-fits (layBlocks f file page k) _ h (advance-fits f k (blockAt file k) _ h)
+      event-fits (layBlocks f file body k) _ h (advance-fits f k (blockAt file k) _ h)
 
   -- after k of n blocks
   module _ (n : ℕ) where
     pub record Written (text out : List ℕ) (marks : List Bool) (w : Writing) (k : ℕ) : Type 0 where
       pub few : k ≤ n
       pub long : length text ≡ textRoom
-      pub same : length out ≡ length (page .out)
-      pub marked : length marks ≡ length (page .marks)
-      pub stands : layingOf w text out marks ≡ layBlocks f file page k
+      pub same : length out ≡ length (body .out)
+      pub marked : length marks ≡ length (body .marks)
+      pub stands : layingOf w text out marks ≡ layBlocks f file body k
 
     pub written-none :
         (text : List ℕ) → length text ≡ textRoom
-        → Written text (page .out) (page .marks) (record { sets = record { least = 0; current = Between }; tally = page .tally }) 0
+        → Written text (body .out) (body .marks) (record { sets = record { least = 0; current = Between }; tally = body .tally }) 0
     unfolding layBlocks layingOf noBlocks assemblyOf currentOf
     written-none text l = record { few = omega arith; long = l; same = refl; marked = refl; stands = refl }
 
@@ -113,15 +113,15 @@ module _ (f : Format) (file : List ℕ) (page : Page) where
             stands = s ∙ rw (add-one, d) (ap (λ (q : Laying). layEvent f q (advance f k (blockAt file k) (q .assembly))) (l .stands));
           }
 
-      pub written-all : n ≤ k → record { out = out; marks = marks; tally = w .tally } ≡ layBlocks f file page n .page
+      pub written-all : n ≤ k → record { out = out; marks = marks; tally = w .tally } ≡ layBlocks f file body n .body
       unfolding layingOf
-      written-all h = let z : k ≡ n = omega (arith, l .few) in ap (λ (q : Laying). q .page) (rw z at (l .stands))
+      written-all h = let z : k ≡ n = omega (arith, l .few) in ap (λ (q : Laying). q .body) (rw z at (l .stands))
 
 -- a walk that accepts lays the same
-module _ (f : Format) (rule : OpenSet → Refusal) (file : List ℕ) (page : Page) where
+module _ (f : Format) (rule : BlockSet → Refusal) (file : List ℕ) (body : Body) where
   judge-lays :
-      (c : Counts) (l : Laying) (e : Event) (p : Progress Page) → judge f rule (laySet f) c (l .page) e ≡ accepted p
-      → layEvent f l e ≡ record { assembly = p .assembly; page = p .gathered }
+      (c : Counts) (l : Laying) (e : Event) (p : Progress Body) → judge f rule (laySet f) c (l .body) e ≡ accepted p
+      → layEvent f l e ≡ record { assembly = p .assembly; body = p .gathered }
   unfolding judge layEvent
   judge-lays c l (broken r) p h = absurd (refused-not h)
   judge-lays c l (pending a) p h = cc
@@ -130,17 +130,17 @@ module _ (f : Format) (rule : OpenSet → Refusal) (file : List ℕ) (page : Pag
       (λ t. let z = rw (t, judge) at h in cc)
       (λ t. absurd (refused-not (rw (t, judge) at h)))
 
-  pub walk-lays : (k : ℕ) (p : Progress Page) → walk f rule (laySet f) page file k ≡ accepted p → layBlocks f file page k ≡ record { assembly = p .assembly; page = p .gathered }
+  pub walk-lays : (k : ℕ) (p : Progress Body) → walk f rule (laySet f) body file k ≡ accepted p → layBlocks f file body k ≡ record { assembly = p .assembly; body = p .gathered }
   unfolding walk steps step blocks begun layBlocks
   walk-lays zero p e = cc
   walk-lays (suc k) p e =
-      more (λ q g. walk-lays k q g) (walk f rule (laySet f) page file k) refl (sym (walk-more f rule (laySet f) page file k) ∙ rw add-one e)
+      more (λ q g. walk-lays k q g) (walk f rule (laySet f) body file k) refl (sym (walk-more f rule (laySet f) body file k) ∙ rw add-one e)
     where
       more :
-          ((q : Progress Page) → walk f rule (laySet f) page file k ≡ accepted q → layBlocks f file page k ≡ record { assembly = q .assembly; page = q .gathered })
-          → (o : Outcome Page) → walk f rule (laySet f) page file k ≡ o → step f rule (laySet f) k o (blockAt file k) ≡ accepted p
-          → layBlocks f file page (suc k) ≡ record { assembly = p .assembly; page = p .gathered }
+          ((q : Progress Body) → walk f rule (laySet f) body file k ≡ accepted q → layBlocks f file body k ≡ record { assembly = q .assembly; body = q .gathered })
+          → (o : Outcome Body) → walk f rule (laySet f) body file k ≡ o → step f rule (laySet f) k o (blockAt file k) ≡ accepted p
+          → layBlocks f file body (suc k) ≡ record { assembly = p .assembly; body = p .gathered }
       more before (refused r) g h = absurd (refused-not h)
       more before (accepted q) g h =
           ap (λ (l : Laying). layEvent f l (advance f k (blockAt file k) (l .assembly))) (before q g)
-          ∙ judge-lays _ (record { assembly = q .assembly; page = q .gathered }) _ p h
+          ∙ judge-lays _ (record { assembly = q .assembly; body = q .gathered }) _ p h

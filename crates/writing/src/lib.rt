@@ -52,7 +52,7 @@ pub fn write_blocks(
     marks: &mut [bool],
     t: Tally,
 ) -> Tally
-    ensures { λ r. ⌜ record { out = now (out .exit); marks = now (marks .exit); tally = r } ≡ layBlocks f (now (file .entry)) (record { out = now (out .entry); marks = now (marks .entry); tally = t }) n .page ⌝ }
+    ensures { λ r. ⌜ record { out = now (out .exit); marks = now (marks .exit); tally = r } ≡ layBlocks f (now (file .entry)) (record { out = now (out .entry); marks = now (marks .entry); tally = t }) n .body ⌝ }
 {
     let mut text = [0u8; Sets::ROOM];
     let mut w = Writing {

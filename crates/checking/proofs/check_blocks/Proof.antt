@@ -3,7 +3,7 @@
 use borrow.Author.Needs.{needs}
 use Rattle.meaning.specs.Refusals.{noRefusal}
 use Rattle.meaning.specs.Walk.{noCounts}
-use Rattle.checking.proofs.Standing.{told-refused, told-good}
+use Rattle.checking.proofs.Stepping.{told-refused, told-good}
 use Rattle.checking.proofs.check_blocks.Statement.{statement}
 use Rattle.checking.proofs.check_blocks.Tie as tie
 

@@ -10,7 +10,8 @@ returns : tie.Need-returns
 returns c =
     let d = c .before .before in
     let e = d .before .before .before in
-    rw (c .rule-of .ensures) (rule-scanned _ _ _ (omega (arith, e .before .before .good)) (e .scan-row .ensures) (d .scan-after .ensures))
+    rw (c .rule-of .ensures)
+    (rule-scanned _ _ _ (omega (arith, e .before .before .good)) (e .scan-row .ensures) (rw (d .before .is-paired .ensures) at (d .scan-after .ensures)))
 
 pub text-rule-spec : {M : Type 1} → statement M
-text-rule-spec = tie.close (tie.spec (λ c κs. search needs) (λ c κs. search needs) (λ c κs. search needs) returns)
+text-rule-spec = tie.close (tie.spec (λ c κs. search needs) (λ c κs. search needs) (λ c κs. search needs) (λ c κs. search needs) returns)

@@ -38,7 +38,7 @@ loop-again c =
     let b = r .before .before .before .before .before in
     let a = b .before .before in
     rows-less _ _ (a .before .before .loop .inv) (a .before .loop-test .taken) (a .row-after .ensures) (b .put-break .ensures) (r .lay-row2 .ensures)
-    (c .counted .ensures)
+    (c .capped-sum .ensures)
 
 returns : tie.Need-returns Inv-loop μ-loop
 returns c = rows-none _ _ (c .before .before .before .before .before .before .before .before .lay-row .ensures) (c .before .loop .inv) (c .loop-test .left)

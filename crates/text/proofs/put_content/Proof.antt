@@ -12,11 +12,12 @@ returns c =
     let n = b .before in
     let l = n .before .before .before in
     let r = l .before .before .before .before .before in
-    let d = r .before .before .before .before .before in
-    content-laid _ _ (omega (arith, d .before .before .before .before .before .good)) (d .is-double .ensures) (r .before .new .ensures) (r .lay-rows .ensures) (l .lines .ensures) (n .filler-lines .ensures)
+    let p = r .before .before .before .before in
+    let d = p .before in
+    content-laid _ _ (omega (arith, d .before .before .before .before .before .good)) (d .is-double .ensures) (r .before .new .ensures) (rw (p .is-paired .ensures) at (r .lay-rows .ensures)) (l .lines .ensures) (n .filler-lines .ensures)
     (b .put-breaks .ensures)
 
 pub put-content-spec : {M : Type 1} → statement M
 put-content-spec =
-    tie.close (tie.spec (λ c κs. search needs) (λ c κs. search needs) (λ c κs. search needs) (λ c κs. search needs) (λ c κs. search needs)
+    tie.close (tie.spec (λ c κs. search needs) (λ c κs. search needs) (λ c κs. search needs) (λ c κs. search needs) (λ c κs. search needs) (λ c κs. search needs)
     (λ c κs. search needs) (λ c. search needs) (λ c. search needs) returns)

@@ -11,7 +11,7 @@ use Rattle.block.proofs.read.header_in.Statement.{statement}
 use Rattle.block.proofs.read.header_in.Tie as tie
 
 returns : tie.Need-returns
-returns c = c .header-of .ensures
+returns c = c .whole-header .ensures
 
 returns-2 : tie.Need-returns-2
 returns-2 c =
@@ -19,7 +19,7 @@ returns-2 c =
     let b = p .before .before .before .before .args .b .now in
     let s : length b ≤ 16 = omega arith in
     let w = wrote-placed (p .put .ensures) (omega (arith, length-replicate {A = ℕ} 16 0)) in
-    rw w at (c .header-of2 .ensures) ∙ header-filled b 16
+    rw w at (c .whole-header2 .ensures) ∙ header-filled b 16
 
 pub header-in-spec : {M : Type 1} → statement M
 header-in-spec =

@@ -7,7 +7,7 @@ use borrow.Author.Needs.{needs}
 use lib.ListN.{length-replicate}
 use Rattle.meaning.specs.Walk.{setRule}
 use Rattle.sets.specs.Assembling.{textRoom}
-use Rattle.checking.proofs.Standing.{good-number, bad-number}
+use Rattle.meaning.proofs.RefusalLaws.{good-number, bad-number}
 use Rattle.checking.proofs.Looping.{Passed, passed-none, passed-refused, passed-all, passed-ready, passed-more}
 use Rattle.checking.proofs.blocks.check_all.Statement.{statement}
 use Rattle.checking.proofs.blocks.check_all.Tie as tie

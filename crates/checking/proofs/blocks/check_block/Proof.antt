@@ -2,7 +2,8 @@
 -- Assumes nothing.
 use mathlib.Core.Path.{sym}
 use borrow.Author.Needs.{needs}
-use Rattle.checking.proofs.Standing.{good-number, on-full, on-broken, on-pending, on-bad, on-good}
+use Rattle.meaning.proofs.RefusalLaws.{good-number}
+use Rattle.checking.proofs.Stepping.{on-full, on-broken, on-pending, on-bad, on-good}
 use Rattle.checking.proofs.blocks.check_block.Statement.{statement}
 use Rattle.checking.proofs.blocks.check_block.Tie as tie
 

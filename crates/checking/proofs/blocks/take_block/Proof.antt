@@ -1,7 +1,7 @@
 -- `take_block` counts a block and has its step made.
 -- Assumes nothing.
 use borrow.Author.Needs.{needs}
-use Rattle.checking.proofs.Standing.{taken}
+use Rattle.checking.proofs.Stepping.{taken}
 use Rattle.checking.proofs.blocks.take_block.Statement.{statement}
 use Rattle.checking.proofs.blocks.take_block.Tie as tie
 

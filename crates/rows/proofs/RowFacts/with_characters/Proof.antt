@@ -7,7 +7,7 @@ use Rattle.rows.proofs.RowFacts.with_characters.Tie as tie
 
 returns : tie.Need-returns
 unfolding withCharacters
-returns c = rw (c .before .counted .ensures)
+returns c = rw (c .before .capped-sum .ensures)
 
 pub with-characters-spec : {M : Type 1} → statement M
 with-characters-spec = tie.close (tie.spec (λ c κs. search needs) returns)

@@ -1,14 +1,15 @@
 -- `is_whole` tests the length of a file.
 -- Assumes nothing.
 use borrow.Author.Tests.{le-leb, lt-leb}
+use Rattle.meaning.specs.Blocks.{gsiSize}
 use Rattle.stl.proofs.gsi.is_whole.Statement.{statement}
 use Rattle.stl.proofs.gsi.is_whole.Tie as tie
 
 returns : tie.Need-returns
-returns c = rw (lt-leb 1024 _ (c .if1 .taken))
+returns c = rw (lt-leb gsiSize _ (c .if1 .taken))
 
 returns-2 : tie.Need-returns-2
-returns-2 c = rw (le-leb 1024 _ (c .if1 .left))
+returns-2 c = rw (le-leb gsiSize _ (c .if1 .left))
 
 pub is-whole-spec : {M : Type 1} → statement M
 is-whole-spec = tie.close (tie.spec returns returns-2)

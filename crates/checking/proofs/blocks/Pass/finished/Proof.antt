@@ -2,7 +2,8 @@
 -- Assumes nothing.
 use mathlib.Core.Path.{sym, _∙_}
 use borrow.Author.Needs.{needs}
-use Rattle.checking.proofs.Standing.{good-number, bad-number, ended-bad, ended-open, ended-shut}
+use Rattle.meaning.proofs.RefusalLaws.{good-number, bad-number}
+use Rattle.checking.proofs.Stepping.{ended-bad, ended-open, ended-shut}
 use Rattle.checking.proofs.blocks.Pass.finished.Statement.{statement}
 use Rattle.checking.proofs.blocks.Pass.finished.Tie as tie
 

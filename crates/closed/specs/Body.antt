@@ -7,7 +7,7 @@ use lib.ListN.{length}
 use Rattle.meaning.specs.declared.Format.{Format}
 use Rattle.meaning.specs.Lists.{joinMap}
 use Rattle.meaning.specs.Blocks.{isComment}
-use Rattle.meaning.specs.Sets.{OpenSet}
+use Rattle.meaning.specs.Sets.{BlockSet}
 use Rattle.meaning.specs.Document.{Paragraph, writeParagraph, documentLooks}
 use Rattle.output.specs.Output.{stored, past}
 use Rattle.text.specs.declared.Tally.{Tally}
@@ -15,13 +15,13 @@ use Rattle.text.specs.Laid.{markedWith}
 use Rattle.document.specs.Parts.{paragraphFor}
 
 -- what is laid: the buffer, the marks, and the tally
-pub record Page : Type 0 where
+pub record Body : Type 0 where
   pub out : List ℕ
   pub marks : List Bool
   pub tally : Tally
 
 -- paragraphs laid behind what is there
-unfoldable pub laid : List Paragraph → Page → Page
+unfoldable pub laid : List Paragraph → Body → Body
 laid ps p =
     record {
       out = stored (p .out) (p .tally .at) (joinMap writeParagraph ps);
@@ -30,8 +30,8 @@ laid ps p =
     }
 
 -- the paragraph of a closed set; a comment has none
-unfoldable pub paragraphsFor : Format → OpenSet → List Paragraph
+unfoldable pub paragraphsFor : Format → BlockSet → List Paragraph
 paragraphsFor f s = cond (isComment (s .first)) [] (paragraphFor f (s .first) (s .text) ∷ [])
 
-unfoldable pub laySet : Format → OpenSet → Page → Page
+unfoldable pub laySet : Format → BlockSet → Body → Body
 laySet f s p = laid (paragraphsFor f s) p

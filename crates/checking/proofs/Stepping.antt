@@ -5,18 +5,18 @@ use native.Mathlib.Omega.{arith}
 use mathlib.Core.Path.{_≡_, refl, sym, ap, _∙_}
 use mathlib.Core.Bool.{Bool, true, false}
 use mathlib.Core.List.{List, []}
-use borrow.Author.Tests.{eq-eqb, ne-eqb}
 use Rattle.meaning.specs.declared.Refusal.{Refusal}
 use Rattle.meaning.specs.declared.Counts.{Counts}
 use Rattle.meaning.specs.declared.Header.{Header}
 use Rattle.meaning.specs.declared.Format.{Format}
 use Rattle.meaning.specs.Refusals.{noRefusal, isGood}
 use Rattle.meaning.specs.Blocks.{headerOf}
-use Rattle.meaning.specs.Sets.{OpenSet, Event, advance}
+use Rattle.meaning.specs.Sets.{BlockSet, Event, advance}
 use Rattle.meaning.specs.Sets.Event.{closed}
 use Rattle.meaning.specs.Walk.{noCounts, counted, isOpen, Progress, Outcome, judge, step, finish}
 use Rattle.meaning.specs.Walk.Outcome.{refused, accepted}
 use Rattle.meaning.proofs.Logic.{by-test, false-not-true, none-not-some}
+use Rattle.meaning.proofs.RefusalLaws.{good-number, bad-number}
 use Rattle.laws.proofs.Walk.{broken-bad}
 use Rattle.laws.proofs.Gathering.{refused-not}
 use Rattle.text.specs.declared.Tally.{Tally}
@@ -30,28 +30,20 @@ use Rattle.sets.specs.Assembling.{setOf, currentOf, assemblyOf, eventOf, hasRoo
 use Rattle.sets.proofs.Laws.{same-event, step-event}
 use Rattle.checking.specs.declared.blocks.Pass.{Pass}
 use Rattle.checking.specs.declared.blocks.Taken.{Taken}
-use Rattle.closed.specs.Pages.{Page, laySet}
-use Rattle.checking.specs.Passing.{blank, standing, checkedOf, TakenBlock}
-
-pub good-number : (r : Refusal) → r .number ≡ 0 → isGood r ≡ true
-unfolding isGood
-good-number r e = eq-eqb (r .number) 0 e
-
-pub bad-number : (r : Refusal) → (r .number ≡ 0 → ⊥) → isGood r ≡ false
-unfolding isGood
-bad-number r e = ne-eqb (r .number) 0 e
+use Rattle.closed.specs.Body.{Body, laySet}
+use Rattle.checking.specs.Passing.{emptyBody, outcomeOf, checkedOf, TakenBlock}
 
 module _ (w : Pass) (text out : List ℕ) (marks : List Bool) where
-  pub standing-good :
+  pub outcome-good :
       isGood (w .refusal) ≡ true
-      → standing w text out marks
+      → outcomeOf w text out marks
       ≡ accepted (record { assembly = assemblyOf (w .sets) text; counts = w .counts; gathered = record { out = out; marks = marks; tally = w .tally } })
-  unfolding standing
-  standing-good e = rw (e, standing)
+  unfolding outcomeOf
+  outcome-good e = rw (e, outcomeOf)
 
-  pub standing-bad : isGood (w .refusal) ≡ false → standing w text out marks ≡ refused (w .refusal)
-  unfolding standing
-  standing-bad e = rw (e, standing)
+  pub outcome-bad : isGood (w .refusal) ≡ false → outcomeOf w text out marks ≡ refused (w .refusal)
+  unfolding outcomeOf
+  outcome-bad e = rw (e, outcomeOf)
 
 -- by the calls that take a block
 pub taken :
@@ -60,30 +52,30 @@ pub taken :
     → (st ≡ stepIn f place b (w .sets) text) × (text′ ≡ textAfter b (w .sets) text) → TakenBlock f place b w text text′ (record { step = st; counts = counts })
 taken r o d c e = record { event = rw (e .0, e .1) (step-event _ _ _ _ _ r); count = c ∙ rw (o, d) }
 
-module _ (rule : OpenSet → Refusal) (out : List ℕ) (marks : List Bool) {f : Format} {place : ℕ} {b : List ℕ} {w : Pass} {text text′ : List ℕ} {r : Taken} (good : isGood (w .refusal) ≡ true) (t : TakenBlock f place b w text text′ r) where
+module _ (rule : BlockSet → Refusal) (out : List ℕ) (marks : List Bool) {f : Format} {place : ℕ} {b : List ℕ} {w : Pass} {text text′ : List ℕ} {r : Taken} (good : isGood (w .refusal) ≡ true) (t : TakenBlock f place b w text text′ r) where
   -- what is promised of the pass after it
-  abbrev Stepped : Outcome Page → Type 0
-  Stepped o = o ≡ step f rule (laySet f) place (standing w text out marks) b
+  abbrev Stepped : Outcome Body → Type 0
+  Stepped o = o ≡ step f rule (laySet f) place (outcomeOf w text out marks) b
 
   judged :
       {e : Event} → advance f place b (assemblyOf (w .sets) text) ≡ e
-      → judge f rule (laySet f) (r .counts) (record { out = out; marks = marks; tally = w .tally }) e ≡ step f rule (laySet f) place (standing w text out marks) b
+      → judge f rule (laySet f) (r .counts) (record { out = out; marks = marks; tally = w .tally }) e ≡ step f rule (laySet f) place (outcomeOf w text out marks) b
   unfolding step
-  judged e = rw (sym e, standing-good w text out marks good, t .count)
+  judged e = rw (sym e, outcome-good w text out marks good, t .count)
 
-  pub on-full : r .step ≡ NoRoom → Stepped (standing w text′ out marks)
+  pub on-full : r .step ≡ NoRoom → Stepped (outcomeOf w text′ out marks)
   unfolding eventOf
   on-full e = absurd (none-not-some (rw e at (t .event)))
 
-  pub on-broken : {q : Refusal} → r .step ≡ Broken q → Stepped (standing (record { refusal = q; sets = w .sets; counts = w .counts; tally = w .tally }) text′ out marks)
+  pub on-broken : {q : Refusal} → r .step ≡ Broken q → Stepped (outcomeOf (record { refusal = q; sets = w .sets; counts = w .counts; tally = w .tally }) text′ out marks)
   unfolding eventOf judge
   on-broken e =
       let z = same-event (rw e at (t .event)) in
-      standing-bad _ text′ out marks (broken-bad f place b _ z) ∙ judged z
+      outcome-bad _ text′ out marks (broken-bad f place b _ z) ∙ judged z
 
-  pub on-pending : {s : Sets} → r .step ≡ Pending s → Stepped (standing (record { refusal = w .refusal; sets = s; counts = r .counts; tally = w .tally }) text′ out marks)
+  pub on-pending : {s : Sets} → r .step ≡ Pending s → Stepped (outcomeOf (record { refusal = w .refusal; sets = s; counts = r .counts; tally = w .tally }) text′ out marks)
   unfolding eventOf judge
-  on-pending e = standing-good _ text′ out marks good ∙ judged (same-event (rw e at (t .event)))
+  on-pending e = outcome-good _ text′ out marks good ∙ judged (same-event (rw e at (t .event)))
 
   module _ {set : Set} {s : Sets} (e : r .step ≡ Closed set s) where
     is-closed : advance f place b (assemblyOf (w .sets) text) ≡ closed (setOf set text′) (assemblyOf s text′)
@@ -92,39 +84,39 @@ module _ (rule : OpenSet → Refusal) (out : List ℕ) (marks : List Bool) {f : 
 
     pub on-bad :
         {q : Refusal} → q ≡ rule (setOf set text′) → (q .number ≡ 0 → ⊥)
-        → Stepped (standing (record { refusal = q; sets = w .sets; counts = w .counts; tally = w .tally }) text′ out marks)
+        → Stepped (outcomeOf (record { refusal = q; sets = w .sets; counts = w .counts; tally = w .tally }) text′ out marks)
     unfolding judge
     on-bad {q} g z =
         let y : isGood (rule (setOf set text′)) ≡ false = rw (sym g) (bad-number q z) in
-        standing-bad _ text′ out marks (bad-number q z) ∙ ap refused g ∙ (rw (y, judge) at (judged is-closed))
+        outcome-bad _ text′ out marks (bad-number q z) ∙ ap refused g ∙ (rw (y, judge) at (judged is-closed))
 
     pub on-good :
         isGood (rule (setOf set text′)) ≡ true → {out′ : List ℕ} {marks′ : List Bool} {u : Tally}
         → record { out = out′; marks = marks′; tally = u } ≡ laySet f (setOf set text′) (record { out = out; marks = marks; tally = w .tally })
-        → Stepped (standing (record { refusal = w .refusal; sets = s; counts = r .counts; tally = u }) text′ out′ marks′)
+        → Stepped (outcomeOf (record { refusal = w .refusal; sets = s; counts = r .counts; tally = u }) text′ out′ marks′)
     unfolding judge
     on-good y {out′} {marks′} {u} l =
-        standing-good _ text′ out′ marks′ good
-        ∙ ap (λ (p : Page). accepted (record { assembly = assemblyOf s text′; counts = r .counts; gathered = p })) l
+        outcome-good _ text′ out′ marks′ good
+        ∙ ap (λ (p : Body). accepted (record { assembly = assemblyOf s text′; counts = r .counts; gathered = p })) l
         ∙ (rw (y, judge) at (judged is-closed))
 
 -- after the last block
 module _ (n : ℕ) (w : Pass) (text out : List ℕ) (marks : List Bool) where
-  pub ended-bad : isGood (w .refusal) ≡ false → standing w text out marks ≡ finish n (standing w text out marks)
+  pub ended-bad : isGood (w .refusal) ≡ false → outcomeOf w text out marks ≡ finish n (outcomeOf w text out marks)
   unfolding finish
-  ended-bad e = rw (standing-bad w text out marks e)
+  ended-bad e = rw (outcome-bad w text out marks e)
 
   module _ (e : isGood (w .refusal) ≡ true) where
     pub ended-open :
         isOpen (assemblyOf (w .sets) text) ≡ true
-        → standing (record { refusal = record { number = 7; place = n }; sets = w .sets; counts = w .counts; tally = w .tally }) text out marks
-        ≡ finish n (standing w text out marks)
+        → outcomeOf (record { refusal = record { number = 7; place = n }; sets = w .sets; counts = w .counts; tally = w .tally }) text out marks
+        ≡ finish n (outcomeOf w text out marks)
     unfolding finish
-    ended-open o = standing-bad _ text out marks (bad-number _ (λ z. omega arith)) ∙ rw (standing-good w text out marks e, o, finish)
+    ended-open o = outcome-bad _ text out marks (bad-number _ (λ z. omega arith)) ∙ rw (outcome-good w text out marks e, o, finish)
 
-    pub ended-shut : isOpen (assemblyOf (w .sets) text) ≡ false → standing w text out marks ≡ finish n (standing w text out marks)
+    pub ended-shut : isOpen (assemblyOf (w .sets) text) ≡ false → outcomeOf w text out marks ≡ finish n (outcomeOf w text out marks)
     unfolding finish
-    ended-shut o = rw (standing-good w text out marks e, o, finish)
+    ended-shut o = rw (outcome-good w text out marks e, o, finish)
 
 -- what ended stands for the same with any text: no set is open
 shut-current : (n : ℕ) (c : Current) (text any : List ℕ) → isOpen (record { least = n; current = currentOf c text }) ≡ false → currentOf c any ≡ currentOf c text
@@ -139,27 +131,27 @@ shut-finish n (accepted q) {p} e =
     by-test (isOpen (q .assembly)) (λ t. absurd (refused-not (rw (t, finish) at e))) (λ t. let z : q ≡ p = (let y = rw (t, finish) at e in cc) in rw z at t)
 
 pub settled :
-    (n : ℕ) (o : Outcome Page) (w : Pass) (text out : List ℕ) (marks : List Bool) → standing w text out marks ≡ finish n o
-    → (any : List ℕ) → standing w any out marks ≡ finish n o
+    (n : ℕ) (o : Outcome Body) (w : Pass) (text out : List ℕ) (marks : List Bool) → outcomeOf w text out marks ≡ finish n o
+    → (any : List ℕ) → outcomeOf w any out marks ≡ finish n o
 unfolding assemblyOf
 settled n o w text out marks e any =
     by-test (isGood (w .refusal))
     (λ g.
-    let z = standing-good w text out marks g in
+    let z = outcome-good w text out marks g in
     let s = shut-current _ (w .sets .current) text any (shut-finish n o (sym e ∙ z)) in
-    standing-good w any out marks g ∙ rw s (sym z ∙ e))
-    (λ g. standing-bad w any out marks g ∙ sym (standing-bad w text out marks g) ∙ e)
+    outcome-good w any out marks g ∙ rw s (sym z ∙ e))
+    (λ g. outcome-bad w any out marks g ∙ sym (outcome-bad w text out marks g) ∙ e)
 
 -- what is told of a pass that is over
-module _ (w : Pass) (out : List ℕ) (marks : List Bool) {o : Outcome Page} (e : (text : List ℕ) → standing w text out marks ≡ o) where
+module _ (w : Pass) (out : List ℕ) (marks : List Bool) {o : Outcome Body} (e : (text : List ℕ) → outcomeOf w text out marks ≡ o) where
   pub told-refused :
       (w .refusal .number ≡ 0 → ⊥)
-      → record { refusal = w .refusal; counts = noCounts; tally = blank .tally; marks = record { on = blank .marks } } ≡ checkedOf o
+      → record { refusal = w .refusal; counts = noCounts; tally = emptyBody .tally; marks = record { on = emptyBody .marks } } ≡ checkedOf o
   unfolding checkedOf
-  told-refused z = rw (sym (e []), standing-bad w [] out marks (bad-number _ z))
+  told-refused z = rw (sym (e []), outcome-bad w [] out marks (bad-number _ z))
 
   pub told-good :
       w .refusal .number ≡ 0
       → record { refusal = noRefusal; counts = w .counts; tally = w .tally; marks = record { on = marks } } ≡ checkedOf o
   unfolding checkedOf
-  told-good z = rw (sym (e []), standing-good w [] out marks (good-number _ z))
+  told-good z = rw (sym (e []), outcome-good w [] out marks (good-number _ z))
