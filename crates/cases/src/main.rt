@@ -1,5 +1,12 @@
-// The boundary cases of document 01 that are run, as tests/CASES.md describes them. Standard input holds the file of one block that all of them are made from.
+// The boundary cases of document 01 that are run. They stand on standard input as tests/CASES.md describes them, a header and a
+// file each.
 use meaning::Answer;
+
+// The most bytes of a file and of a document.
+const ROOM: usize = 65536;
+
+// More cases are not run.
+const MOST: usize = 1000;
 
 // The Adler-32 checksum of the first n bytes.
 fn adler(bytes: &[u8], n: u64) -> u64 {
@@ -22,6 +29,13 @@ fn say(n: u64, after: &[u8]) {
     io::write_all(libc::STDOUT_FILENO, after);
 }
 
+fn say_name(header: &[u8]) {
+    if 24 <= header.len() {
+        io::write_all(libc::STDOUT_FILENO, &header[..24]);
+        io::write_all(libc::STDOUT_FILENO, b": ");
+    }
+}
+
 fn say_answer(a: Answer) {
     say(a.number, b" ");
     say(a.place, b" ");
@@ -33,60 +47,67 @@ fn say_answer(a: Answer) {
     say(a.spans, b"\n");
 }
 
-fn run(name: &[u8], file: &[u8], out: &mut [u8]) {
-    let a = convert::convert(file, 1, out);
-    io::write_all(libc::STDOUT_FILENO, name);
-    io::write_all(libc::STDOUT_FILENO, b": ");
-    say_answer(a);
-    if a.number == 0 {
-        say(adler(out, a.length), b"\n");
+// Three bytes, the low one first.
+fn number(low: u8, middle: u8, high: u8) -> usize {
+    low as usize + 256 * middle as usize + 65536 * high as usize
+}
+
+fn wide(x: u8) -> u64 {
+    x as u64
+}
+
+// A header: the name, 24 bytes; the break mode; the room; the file's length; LF.
+struct Case {
+    mode: u64,
+    room: usize,
+    length: usize,
+}
+
+fn case_of(header: &[u8; 32]) -> Case {
+    Case {
+        mode: wide(header[24]),
+        room: number(header[25], header[26], header[27]),
+        length: number(header[28], header[29], header[30]),
     }
 }
 
-// The first n bytes of the file, with a buffer of `room` bytes.
-fn run_part(name: &[u8], file: &[u8], n: usize, out: &mut [u8], room: usize) {
+fn run(c: Case, file: &mut [u8], out: &mut [u8]) {
+    let n = c.length;
+    let room = c.room;
     if n <= file.len() {
         if room <= out.len() {
-            run(name, &file[..n], &mut out[..room]);
+            let read = io::read_full(libc::STDIN_FILENO, &mut file[..n]);
+            if read == n {
+                let a = convert::convert(&file[..n], c.mode, &mut out[..room]);
+                say_answer(a);
+                if a.number == 0 {
+                    say(adler(out, a.length), b"\n");
+                }
+            }
         }
     }
 }
 
-fn lengths(file: &mut [u8; 1152], out: &mut [u8; 4096]) {
-    file[242] = b'0';
-    run_part(b"bytes-1023", file, 1023, out, 4096);
-    run_part(b"bytes-1024", file, 1024, out, 4096);
-    file[1024] = 0x20;
-    run_part(b"bytes-1025", file, 1025, out, 4096);
-    file[1024] = 0;
-    file[242] = b'1';
-}
-
-fn frames(file: &mut [u8; 1152], out: &mut [u8; 4096]) {
-    run(b"frame-24-at-25", file, out);
-    file[1036] = 25;
-    run(b"frame-25-at-25", file, out);
-    file[6] = b'3';
-    file[7] = b'0';
-    file[1036] = 29;
-    run(b"frame-29-at-30", file, out);
-    file[1036] = 30;
-    run(b"frame-30-at-30", file, out);
-    file[6] = b'2';
-    file[7] = b'5';
-    file[1036] = 24;
-}
-
-fn rooms(file: &[u8; 1152], out: &mut [u8; 4096]) {
-    run_part(b"room-exact", file, 1152, out, 1447);
-    run_part(b"room-short", file, 1152, out, 1446);
+// The next case, if there is one.
+fn run_next(header: &mut [u8; 32], file: &mut [u8; ROOM], out: &mut [u8; ROOM]) -> bool {
+    let n = io::read_full(libc::STDIN_FILENO, header);
+    if n < 32 {
+        return false;
+    }
+    say_name(header);
+    run(case_of(header), file, out);
+    true
 }
 
 fn main() {
-    let mut file = [0u8; 1152];
-    let mut out = [0u8; 4096];
-    io::read_full(libc::STDIN_FILENO, &mut file);
-    lengths(&mut file, &mut out);
-    frames(&mut file, &mut out);
-    rooms(&file, &mut out);
+    let mut header = [0u8; 32];
+    let mut file = [0u8; ROOM];
+    let mut out = [0u8; ROOM];
+    let mut k = 0;
+    while k < MOST {
+        if !run_next(&mut header, &mut file, &mut out) {
+            return;
+        }
+        k += 1;
+    }
 }
