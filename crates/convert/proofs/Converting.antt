@@ -24,7 +24,7 @@ use Rattle.meaning.specs.Walk.{Subtitle, Progress, Outcome, finish, walk, setRu
 use Rattle.meaning.specs.Walk.Outcome.{refused, accepted}
 use Rattle.meaning.specs.Document.{Paragraph, writeParagraph, documentLooks, render, documentSpans, afterParagraphs}
 use Rattle.meaning.specs.Conversion.{paragraphOf, documentOf, refusedAnswer, acceptedAnswer, answerBy, answerTo, answer, output}
-use Rattle.meaning.specs.Demands.{Bytes, FewestSpans}
+use Rattle.laws.specs.Demands.{Bytes, FewestSpans}
 use Rattle.meaning.proofs.Logic.{by-test}
 use Rattle.meaning.proofs.ListLaws.{Any, any-blocks}
 use Rattle.laws.proofs.Gathering.{mapped, finish-mapped, walk-mapped, refused-not, finish-accepted}

@@ -9,7 +9,7 @@ ghost use Rattle.meaning.specs.Walk.{Subtitle, Progress, outcome};
 ghost use Rattle.meaning.specs.Walk.Outcome.{accepted};
 ghost use Rattle.meaning.specs.Document.{render};
 ghost use Rattle.meaning.specs.Conversion.{documentOf, refusedAnswer, acceptedAnswer, answer, output};
-ghost use Rattle.meaning.specs.Demands.{FewestSpans};
+ghost use Rattle.laws.specs.Demands.{FewestSpans};
 ghost use Rattle.output.specs.Output.{Wrote};
 ghost use Rattle.convert.specs.Telling.{marksOf, measured, answerOf};
 use checking::Checked;

@@ -13,7 +13,7 @@ use Rattle.meaning.specs.Walk.{Subtitle, outcome, subtitlesOf}
 use Rattle.meaning.specs.Document.{Document, render, documentSpans}
 use Rattle.meaning.specs.Conversion.{documentOf, acceptedAnswer, answer, output}
 use Rattle.meaning.specs.Profile.{inProfile, Writes, Shows, spanElements}
-use Rattle.meaning.specs.Demands.{Bytes, FewestSpans}
+use Rattle.laws.specs.Demands.{Bytes, FewestSpans}
 use Rattle.meaning.proofs.Logic.{and-true}
 use Rattle.meaning.proofs.ListLaws.{All}
 use Rattle.meaning.proofs.ListLaws.All.{nil, cons}

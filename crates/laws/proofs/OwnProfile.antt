@@ -21,7 +21,7 @@ use Rattle.meaning.specs.Document.{Piece}
 use Rattle.meaning.specs.Document.Piece.{span, br}
 use Rattle.meaning.specs.Conversion.{spanOf, rowSpans, laterRows, rowPieces, paragraphOf}
 use Rattle.meaning.specs.Profile.{isScalar, pieceInProfile, paragraphsInProfile}
-use Rattle.meaning.specs.Demands.{Bytes}
+use Rattle.laws.specs.Demands.{Bytes}
 use Rattle.meaning.proofs.Logic.{and-true}
 use Rattle.meaning.proofs.ListLaws.{All, all-append, all-copies, all-map, test-all}
 use Rattle.meaning.proofs.RefusalLaws.{Holds, unbroken}

@@ -14,5 +14,4 @@ pub mod Walk
 pub mod Document
 pub mod Conversion
 pub mod Profile
-pub mod Demands
 pub mod Computed

@@ -4,7 +4,7 @@ use Prim.Native.Nat.{ℕ}
 use mathlib.Core.Path.{_≡_, subst}
 use mathlib.Core.List.{List}
 use Rattle.meaning.specs.declared.Answer.{Answer}
-use Rattle.meaning.specs.Demands.{FewestSpans}
+use Rattle.laws.specs.Demands.{FewestSpans}
 
 pub fewest-told :
     {mode : ℕ} {file out : List ℕ} {r a : Answer} → r ≡ a → (r .number ≡ 0 → FewestSpans mode file r out) → r .number ≡ 0 → FewestSpans mode file a out

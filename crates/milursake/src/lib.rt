@@ -3,7 +3,7 @@
 ghost use mathlib.Core.Path.{_≡_};
 ghost use lib.ListN.{length, set};
 ghost use Rattle.meaning.specs.Conversion.{answer, output};
-ghost use Rattle.meaning.specs.Demands.{FewestSpans};
+ghost use Rattle.laws.specs.Demands.{FewestSpans};
 ghost use Rattle.output.specs.Output.{stored};
 ghost use Rattle.milursake.specs.Numbers.{numbersOf};
 use meaning::Answer;
