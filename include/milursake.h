@@ -23,7 +23,7 @@ extern "C" {
  * Refusal 16 tells in `length` how long `out` must be.
  *
  * Calls may run at the same time, each with buffers of its own. A call needs less than MILURSAKE_STACK bytes of stack,
- * however long the file is.
+ * however long the file is; this is measured (tests/from_c.c) and not proved.
  */
 #define MILURSAKE_STACK 40000
 

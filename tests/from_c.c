@@ -1,6 +1,6 @@
 /*
  * Calls the converter from C, as the header says, on a stack that was painted before: `from_c FILE...`.
- * Prints for each file how much of the stack was used. Status 1 if that is more than the header says.
+ * Prints for each file how much of the stack was used. Status 1 if that is not less than the header says.
  */
 #define _XOPEN_SOURCE 700
 #include "milursake.h"
@@ -50,7 +50,7 @@ static struct call called(size_t length)
 static void fits(const char *name, struct call call)
 {
     printf("%s: number %d, %zu bytes of stack\n", name, (int)call.number, call.used);
-    if (call.used > MILURSAKE_STACK)
+    if (call.used >= MILURSAKE_STACK)
         exit(1);
 }
 

@@ -11,7 +11,7 @@ mod read;
 pub use parts::bytes_at;
 pub use parts::field;
 
-// One block: 128 bytes, or fewer where the file ends.
+// One block's bytes: 128, or fewer where the file ends. What is past the 128th is not read.
 pub struct Block<'a> {
     pub bytes: &'a [u8],
 }

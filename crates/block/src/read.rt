@@ -4,8 +4,9 @@ ghost use mathlib.Core.Path.{_≡_};
 ghost use Prim.Native.Nat.{_+_, _*_, _≤_};
 ghost use lib.ListN.{length};
 ghost use Rattle.meaning.specs.Lists.{takeWhile};
-ghost use Rattle.meaning.specs.Blocks.{timeAt, headerOf, inText, blockText};
+ghost use Rattle.meaning.specs.Blocks.{headerSize, timeAt, headerOf, inText, blockText};
 use crate::parts::field;
+use meaning::HEADER_SIZE;
 use meaning::Header;
 use meaning::TEXT_SIZE;
 use meaning::Time;
@@ -30,7 +31,7 @@ fn time_at(b: &[u8], i: usize) -> Time
 }
 
 fn whole_header(b: &[u8]) -> Header
-    requires { ⌜ 16 ≤ length (now b) ⌝ }
+    requires { ⌜ headerSize ≤ length (now b) ⌝ }
     ensures { λ r. ⌜ r ≡ headerOf (now (b .entry)) ⌝ }
 {
     Header {
@@ -50,10 +51,10 @@ fn whole_header(b: &[u8]) -> Header
 pub(crate) fn header_in(b: &[u8]) -> Header
     ensures { λ r. ⌜ r ≡ headerOf (now (b .entry)) ⌝ }
 {
-    if 16 <= b.len() {
+    if HEADER_SIZE <= b.len() {
         return whole_header(b);
     }
-    let mut filled = [0u8; 16];
+    let mut filled = [0u8; HEADER_SIZE];
     output::put(&mut filled, 0, b);
     whole_header(&filled)
 }
@@ -76,7 +77,7 @@ fn length_before_end(text: &[u8]) -> usize
 pub(crate) fn text_in(b: &[u8]) -> &[u8]
     ensures { λ r. ⌜ now r ≡ blockText (now (b .entry)) ⌝ }
 {
-    let text = field(b, 16, TEXT_SIZE);
+    let text = field(b, HEADER_SIZE, TEXT_SIZE);
     let n = length_before_end(text);
     &text[..n]
 }

@@ -10,7 +10,7 @@ use Rattle.meaning.specs.declared.Token.{Token}
 use Rattle.meaning.specs.declared.Token.the-variants.{Character, Control, RowEnd, Unlisted}
 use Rattle.meaning.specs.declared.Pen.{Pen}
 use Rattle.meaning.specs.Codes.{isRowEnd, takesCell}
-use Rattle.meaning.specs.Rows.{breaksPaired}
+use Rattle.meaning.specs.Rows.{breaksPaired, firstRow}
 use Rattle.meaning.specs.Looks.{pack}
 use Rattle.meaning.specs.Cells.{Cell, cellCharacter, lookHere, lookNext, cellOf, penAfter, cellsOf, cellsFrom, penEnd, rowStart, cellRows}
 use Rattle.meaning.proofs.Logic.{by-test}
@@ -23,8 +23,8 @@ use Rattle.charset.proofs.Positions.{row-over}
 use Rattle.charset.proofs.Laws.{ReadOn, tokens-end, RunOn}
 use Rattle.output.specs.Output.{stored}
 use Rattle.output.proofs.Laws.{length-stored, stored-append}
-use Rattle.rows.specs.FirstRow.{firstRow, isEnded}
-use Rattle.rows.proofs.Laws.{first-end, ended-end, first-more, ended-more, first-run, ended-run, first-none, ended-none, rows-are, rows-first}
+use Rattle.rows.specs.Scanned.{isEnded}
+use Rattle.rows.proofs.Laws.{first-end, ended-end, first-more, ended-more, first-run, ended-run, first-none, ended-none, rows-first}
 use Rattle.rows.proofs.RowEnds.{row-end, row-more}
 use Rattle.cells.specs.declared.RowRead.{RowRead}
 use Rattle.cells.specs.Arrays.{character, packedLook}
@@ -38,7 +38,7 @@ pub row-sound : (text : List ℕ) (start : ℕ) (pen : Pen) → All Sound (rowAt
 unfolding rowAt cellRows
 row-sound text start pen =
     let ts = tokensFrom text start in
-    first-of (rw (rows-are 1 ts, rows-first (breaksPaired 1 ts) ts) at (rows-sound 1 pen (drop start text)))
+    first-of (rw (rows-first (breaksPaired 1 ts) ts) at (rows-sound 1 pen (drop start text)))
 
 -- every token takes a cell
 pub takes-cell : (t : Token) → takesCell t ≡ true

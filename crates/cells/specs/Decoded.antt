@@ -11,7 +11,8 @@ use Rattle.meaning.specs.declared.Pen.{Pen}
 use Rattle.meaning.specs.Cells.{Cell, cellOf, cellsOfRow, penAfterRow}
 use Rattle.output.specs.Output.{stored}
 use Rattle.charset.specs.Reading.{afterRowAt}
-use Rattle.rows.specs.FirstRow.{firstRow, isEnded}
+use Rattle.meaning.specs.Rows.{firstRow}
+use Rattle.rows.specs.Scanned.{isEnded}
 use Rattle.cells.specs.declared.RowRead.{RowRead}
 use Rattle.cells.specs.Arrays.{character, packedLook}
 

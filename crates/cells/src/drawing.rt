@@ -4,7 +4,7 @@ ghost use mathlib.Core.Path.{_≡_};
 ghost use lib.ListN.{drop};
 ghost use Rattle.meaning.specs.Codes.{tokens};
 ghost use Rattle.meaning.specs.Cells.{controlHere, controlNext, cellOf, penAfter, rowStart};
-ghost use Rattle.rows.specs.FirstRow.{firstRow};
+ghost use Rattle.meaning.specs.Rows.{firstRow};
 use crate::BLANK;
 use meaning::Look;
 use meaning::Pen;
@@ -78,7 +78,7 @@ pub(crate) fn pen_after(token: Token, pen: Pen) -> Pen
     }
 }
 
-// The pen at the start of the row that starts at a position.
+// The pen at the start of the row that starts at a position. The row's codes make no difference.
 pub(crate) fn row_start(text: &[u8], start: usize, pen: Pen) -> Pen
     ensures { λ r. ⌜ r ≡ rowStart (firstRow (tokens (drop start (now (text .entry))))) pen ⌝ }
 {

@@ -69,7 +69,7 @@ fn put_looks(looks: &mut [u16], k: usize, n: usize, look: Look)
     }
 }
 
-// The cell of a token, if it takes one, and how many cells there are then.
+// The cell of a token, and how many cells there are then. Every token takes one.
 fn put_cell(characters: &mut [u16], looks: &mut [u16], k: usize, token: Token, pen: Pen) -> usize
     requires { ⌜ k + 1 < 2 ^ 64 ⌝ }
     ensures { λ r. ⌜ (now (characters .exit) ≡ stored (now (characters .entry)) k (map character (cellsOf token pen))) × (now (looks .exit) ≡ stored (now (looks .entry)) k (map packedLook (cellsOf token pen))) × (r ≡ k + length (cellsOf token pen)) ⌝ }

@@ -1,5 +1,5 @@
 // The code point of each code from A0h to FFh that stands for a character by itself; 0 for none.
-pub const UPPER: [u16; 96] = [
+pub(crate) const UPPER: [u16; 96] = [
     // A0h to AFh
     160,
     161,

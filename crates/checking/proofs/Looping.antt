@@ -17,8 +17,8 @@ use Rattle.meaning.proofs.RefusalLaws.{good-number}
 use Rattle.laws.proofs.Steps.{walk-more, walk-stays}
 use Rattle.laws.proofs.Walk.{WithinIf, walk-within}
 use Rattle.sets.specs.declared.Current.the-variants.{Between}
-use Rattle.sets.specs.Assembling.{textRoom, currentOf, assemblyOf, hasRoom}
-use Rattle.sets.proofs.Rooms.{room-left}
+use Rattle.sets.specs.Assembling.{currentOf, assemblyOf, hasRoom}
+use Rattle.sets.proofs.Rooms.{textRoom, room-left}
 use Rattle.checking.specs.declared.blocks.Pass.{Pass}
 use Rattle.closed.specs.Body.{Body, laySet}
 use Rattle.checking.specs.Passing.{outcomeOf}

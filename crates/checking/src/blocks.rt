@@ -20,7 +20,7 @@ use sets::Step;
 use text::Tally;
 
 // The refusal, if there is one; the sets; the counts; and how much was laid.
-pub struct Pass {
+pub(crate) struct Pass {
     pub refusal: Refusal,
     pub sets: Sets,
     pub counts: Counts,

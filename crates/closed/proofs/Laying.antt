@@ -4,12 +4,12 @@ use Prim.Native.Nat.{ℕ, _<_, _^_}
 use native.Mathlib.Omega.{arith}
 use mathlib.Core.Path.{_≡_, refl, sym, _∙_}
 use mathlib.Core.Bool.{Bool, true, false}
-use mathlib.Core.List.{List, [], _∷_, _++_, append-nil}
+use mathlib.Core.List.{List, [], _∷_, _++_, append-nil, flatMap}
 use lib.ListN.{length}
 use Rattle.meaning.specs.declared.Refusal.{Refusal}
 use Rattle.meaning.specs.declared.Format.{Format}
 use Rattle.meaning.specs.Refusals.{noRefusal}
-use Rattle.meaning.specs.Lists.{joinMap, field}
+use Rattle.meaning.specs.Lists.{field}
 use Rattle.meaning.specs.Codes.{tokens}
 use Rattle.meaning.specs.Rows.{textRule}
 use Rattle.meaning.specs.Blocks.{isComment}
@@ -33,19 +33,19 @@ bodies :
 bodies e f g h = rw (e, f, g, h)
 
 pub laid-none : (p : Body) → p .tally .at < 2 ^ 64 → p .tally .spans < 2 ^ 64 → p ≡ laid [] p
-unfolding laid joinMap documentLooks stored markedWith past
+unfolding laid flatMap documentLooks stored markedWith past
 laid-none p h i = bodies refl refl (omega arith) (omega arith)
 
 -- a body is what is laid on another
 pub is-laid :
-    {out out′ : List ℕ} {marks marks′ : List Bool} {t r : Tally} (ps : List Paragraph) → Laid out marks t (joinMap writeParagraph ps) (documentLooks ps) out′ marks′ r
+    {out out′ : List ℕ} {marks marks′ : List Bool} {t r : Tally} (ps : List Paragraph) → Laid out marks t (flatMap writeParagraph ps) (documentLooks ps) out′ marks′ r
     → _≡_ {A = Body} (record { out = out′; marks = marks′; tally = r }) (laid ps (record { out = out; marks = marks; tally = t }))
 unfolding laid
 is-laid ps l = bodies (l .wrote .held) (l .marks) (l .wrote .next) (l .spans)
 
 pub laid-is :
     (ps : List Paragraph) (p : Body) → length (p .out) < 2 ^ 64
-    → Laid (p .out) (p .marks) (p .tally) (joinMap writeParagraph ps) (documentLooks ps) (laid ps p .out) (laid ps p .marks) (laid ps p .tally)
+    → Laid (p .out) (p .marks) (p .tally) (flatMap writeParagraph ps) (documentLooks ps) (laid ps p .out) (laid ps p .marks) (laid ps p .tally)
 unfolding laid
 laid-is ps p h = record { wrote = record { held = refl; next = refl; room = h }; spans = refl; marks = refl }
 
@@ -58,8 +58,8 @@ laid-append ps qs p h =
 
 one :
     {out out′ : List ℕ} {marks marks′ : List Bool} {t r : Tally} (p : Paragraph) → ParagraphLaid out marks t p out′ marks′ r
-    → Laid out marks t (joinMap writeParagraph (p ∷ [])) (documentLooks (p ∷ [])) out′ marks′ r
-unfolding joinMap documentLooks
+    → Laid out marks t (flatMap writeParagraph (p ∷ [])) (documentLooks (p ∷ [])) out′ marks′ r
+unfolding flatMap documentLooks
 one p l = rw (append-nil (writeParagraph p), append-nil (paragraphLooks p)) l
 
 -- a closed set, by the flag of its first block

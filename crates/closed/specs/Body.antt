@@ -2,10 +2,9 @@
 -- Assumes nothing.
 use Prim.Native.Nat.{ℕ}
 use mathlib.Core.Bool.{Bool, cond}
-use mathlib.Core.List.{List, [], _∷_}
+use mathlib.Core.List.{List, [], _∷_, flatMap}
 use lib.ListN.{length}
 use Rattle.meaning.specs.declared.Format.{Format}
-use Rattle.meaning.specs.Lists.{joinMap}
 use Rattle.meaning.specs.Blocks.{isComment}
 use Rattle.meaning.specs.Sets.{BlockSet}
 use Rattle.meaning.specs.Document.{Paragraph, writeParagraph, documentLooks}
@@ -24,9 +23,9 @@ pub record Body : Type 0 where
 unfoldable pub laid : List Paragraph → Body → Body
 laid ps p =
     record {
-      out = stored (p .out) (p .tally .at) (joinMap writeParagraph ps);
+      out = stored (p .out) (p .tally .at) (flatMap writeParagraph ps);
       marks = markedWith (p .marks) (documentLooks ps);
-      tally = record { at = past (p .tally .at) (length (joinMap writeParagraph ps)); spans = past (p .tally .spans) (length (documentLooks ps)) };
+      tally = record { at = past (p .tally .at) (length (flatMap writeParagraph ps)); spans = past (p .tally .spans) (length (documentLooks ps)) };
     }
 
 -- the paragraph of a closed set; a comment has none

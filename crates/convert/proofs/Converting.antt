@@ -4,7 +4,7 @@ use Prim.Native.Nat.{ℕ, _≤_, _<_, _^_}
 use native.Mathlib.Omega.{arith}
 use mathlib.Core.Path.{_≡_, refl, sym, ap, _∙_}
 use mathlib.Core.Bool.{Bool, true, false}
-use mathlib.Core.List.{List, [], _∷_, _++_, map, map-append, append-assoc}
+use mathlib.Core.List.{List, [], _∷_, _++_, map, map-append, append-assoc, flatMap}
 use lib.Dec.{leb}
 use lib.ListN.{length, replicate, length-append}
 use borrow.Author.Tests.{le-leb, lt-leb, leb-true}
@@ -13,7 +13,7 @@ use Rattle.meaning.specs.declared.Answer.{Answer}
 use Rattle.meaning.specs.declared.Header.{Header}
 use Rattle.meaning.specs.declared.Format.{Format}
 use Rattle.meaning.specs.Refusals.{noRefusal, isGood}
-use Rattle.meaning.specs.Lists.{joinMap, joined}
+use Rattle.meaning.specs.Lists.{joined}
 use Rattle.meaning.specs.Gsi.{formatOf, blockCount, fileRule}
 use Rattle.meaning.specs.Looks.{lookCount}
 use Rattle.meaning.specs.Codes.{tokens}
@@ -24,13 +24,14 @@ use Rattle.meaning.specs.Walk.{Subtitle, Progress, Outcome, finish, walk, setRu
 use Rattle.meaning.specs.Walk.Outcome.{refused, accepted}
 use Rattle.meaning.specs.Document.{Paragraph, writeParagraph, documentLooks, render, documentSpans, afterParagraphs}
 use Rattle.meaning.specs.Conversion.{paragraphOf, documentOf, refusedAnswer, acceptedAnswer, answerBy, answerTo, answer, output}
-use Rattle.laws.specs.Demands.{Bytes, FewestSpans}
+use Rattle.laws.specs.Demands.{FewestSpans}
 use Rattle.meaning.proofs.Logic.{by-test}
 use Rattle.meaning.proofs.ListLaws.{Any, any-blocks}
 use Rattle.laws.proofs.Gathering.{mapped, finish-mapped, walk-mapped, refused-not, finish-accepted}
 use Rattle.laws.proofs.Accepted.{Accepted, accepted-file, rule-kept}
 use Rattle.laws.proofs.Refused.{refusal-bad, refused-untouched}
 use Rattle.laws.proofs.Bounds.{document-bound, spans-bound}
+use Rattle.laws.proofs.OwnProfile.{Bytes}
 use Rattle.laws.proofs.Demand3.{fewest-spans}
 use Rattle.output.specs.Output.{past, Wrote}
 use Rattle.output.proofs.Laws.{_⨟_, wrote-length, wrote-placed, wrote-as}
@@ -89,7 +90,7 @@ module _ (f : Format) (p : Body) (h : Sound p) where
 -- the document in three parts: head, paragraphs, tail
 document-parts :
     {on : List Bool} (f : Format) (ss : List Subtitle) → on ≡ marksOf f ss
-    → render (documentOf f ss) ≡ headOf (f .rate) on ++ (joinMap writeParagraph (map (paragraphOf f) ss) ++ afterParagraphs)
+    → render (documentOf f ss) ≡ headOf (f .rate) on ++ (flatMap writeParagraph (map (paragraphOf f) ss) ++ afterParagraphs)
 unfolding render documentOf headOf joined marksOf
 document-parts f ss e = rw (looks-right (map (paragraphOf f) ss) e) (sym (simp append-assoc))
 
@@ -97,11 +98,11 @@ module _ (mode : ℕ) (file : List ℕ) where
   -- an accepted file: what was measured is the document's
   module _ (p : Progress (List Subtitle)) (c : outcome mode file ≡ accepted p) where
     length-right :
-        measured (formatOf mode file .rate) (marksOf (formatOf mode file) (p .gathered)) (past 0 (length (joinMap writeParagraph (map (paragraphOf (formatOf mode file)) (p .gathered)))))
+        measured (formatOf mode file .rate) (marksOf (formatOf mode file) (p .gathered)) (past 0 (length (flatMap writeParagraph (map (paragraphOf (formatOf mode file)) (p .gathered)))))
         ≡ length (render (documentOf (formatOf mode file) (p .gathered)))
     unfolding past measured
     length-right =
-        let body = joinMap writeParagraph (map (paragraphOf (formatOf mode file)) (p .gathered)) in
+        let body = flatMap writeParagraph (map (paragraphOf (formatOf mode file)) (p .gathered)) in
         omega (
           arith,
           ap length (document-parts (formatOf mode file) (p .gathered) refl),
@@ -176,7 +177,7 @@ module _ (mode : ℕ) (file : List ℕ) where
       let z : finish (blockCount file) (walk r (setRule r) (laySet r) body file (blockCount file)) ≡ mapped (bodyOf r body) (accepted p) =
       outcome-laid mode file body h (rule-kept mode file p c) ∙ ap (mapped (bodyOf r body)) c in
       let y = (rw (g, b) at s) ∙ ap (λ (q : Laying). q .body) (walk-lays r (setRule r) file body (blockCount file) _ (finish-accepted (blockCount file) _ _ z)) in
-      let w2 : Wrote b1 at (joinMap writeParagraph (map (paragraphOf r) (p .gathered))) b2 (t .at) =
+      let w2 : Wrote b1 at (flatMap writeParagraph (map (paragraphOf r) (p .gathered))) b2 (t .at) =
       record { held = ap (λ (q : Body). q .out) y; next = ap (λ (q : Body). q .tally .at) y; room = h .room } in
       wrote-as (document-parts r (p .gathered) m) ((rw g at w1) ⨟ w2 ⨟ w3)
 

@@ -2,7 +2,6 @@
 
 ghost use mathlib.Core.Path.{_≡_};
 ghost use mathlib.Core.List.{List};
-ghost use Prim.Native.Nat.{ℕ};
 ghost use lib.ListN.{length};
 ghost use Rattle.meaning.specs.Gsi.{formatOf};
 ghost use Rattle.meaning.specs.Walk.{Subtitle, Progress, outcome};
@@ -123,6 +122,7 @@ fn write(file: &[u8], mode: u64, out: &mut [u8], marks: Marks) -> usize
     let n = stl::block_count(file);
     let at = document::put_head(out, 0, f.rate, marks);
     let t = Tally { at, spans: 0 };
+    // The looks are marked once more, and not read.
     let mut again = [false; Look::COUNT];
     let tally = writing::write_blocks(file, n, f, out, &mut again, t);
     document::put_tail(out, tally.at)

@@ -2,9 +2,9 @@
 -- Assumes nothing.
 use Prim.Native.Nat.{ℕ}
 use mathlib.Core.Bool.{Bool}
-use mathlib.Core.List.{List, [], _∷_}
-use Rattle.meaning.specs.Lists.{joinMap, joined}
-use Rattle.meaning.specs.Document.{Paragraph, digits, writeParagraph, writeStyle, beforeRate, beforeStyles, beforeParagraphs, looksOf}
+use mathlib.Core.List.{List}
+use Rattle.meaning.specs.Lists.{joined}
+use Rattle.meaning.specs.Document.{Paragraph, writeParagraph, headParts, looksOf}
 use Rattle.meaning.specs.Conversion.{paragraphWith}
 use Rattle.styles.specs.Styles.{looksMarked}
 use Rattle.meaning.specs.declared.Header.{Header}
@@ -14,7 +14,7 @@ use Rattle.text.specs.Laid.{Laid, contentOf}
 
 -- all that stands before the paragraphs
 unfoldable pub headOf : ℕ → List Bool → List ℕ
-headOf rate on = joined (beforeRate ∷ digits 2 rate ∷ beforeStyles ∷ joinMap writeStyle (looksMarked on) ∷ beforeParagraphs ∷ [])
+headOf rate on = joined (headParts rate (looksMarked on))
 
 -- the paragraph of a set: its first block's header, and its text
 unfoldable pub paragraphFor : Format → Header → List ℕ → Paragraph

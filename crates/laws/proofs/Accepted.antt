@@ -10,8 +10,8 @@ use lib.ListN.{length, take, drop}
 use lib.Seq.{take-at}
 use borrow.Author.Tests.{eqb-true, eqb-false}
 use Rattle.meaning.specs.declared.Answer.{Answer}
-use Rattle.meaning.specs.Lists.{all, field}
-use Rattle.meaning.specs.Gsi.{rateOf, isRate, formatOf, blockCount, isDigit, tnb, fileRule}
+use Rattle.meaning.specs.Lists.{all}
+use Rattle.meaning.specs.Gsi.{rateOf, isRate, formatOf, blockCount, isDigit, tnbField, tnb, fileRule}
 use Rattle.meaning.specs.Blocks.{gsiSize, blocks}
 use Rattle.meaning.specs.Refusals.{isGood}
 use Rattle.meaning.specs.Walk.{total, Subtitle, Progress, Outcome, walk, setRule, withSubtitles, outcome}
@@ -92,7 +92,7 @@ module _ (mode : ℕ) (file : List ℕ) where
       let r₃ = unbroken _ _ _ _ (r₂ .1) in
       let r₄ = unbroken _ _ _ _ (r₃ .1) in
       let r₅ = unbroken _ _ _ _ (r₄ .1) in
-      eqb-true (tnb file) (blockCount file) (and-parts (all isDigit (field 238 5 file)) _ (unbroken _ _ _ _ (r₅ .1) .0) .1)
+      eqb-true (tnb file) (blockCount file) (and-parts (all isDigit (tnbField file)) _ (unbroken _ _ _ _ (r₅ .1) .0) .1)
 
   counts-all : (p : Progress (List Subtitle)) → outcome mode file ≡ accepted p → total (p .counts) ≡ blockCount file
   counts-all p c =

@@ -5,13 +5,13 @@ use native.Mathlib.Omega.{arith}
 use native.Mathlib.Nat.{not-suc-le-zero}
 use mathlib.Core.Path.{_≡_, refl, ap, _∙_}
 use mathlib.Core.Bool.{Bool, true, false, cond}
-use mathlib.Core.List.{List, [], _∷_, _++_, map}
+use mathlib.Core.List.{List, [], _∷_, _++_, map, flatMap}
 use lib.Dec.{leb, eqb, ltb}
 use lib.ListN.{length, replicate, length-append, length-map, length-take, length-replicate}
 use borrow.Author.Tests.{leb-true}
 use Rattle.meaning.specs.declared.Pen.{Pen}
 use Rattle.meaning.specs.declared.Token.{Token}
-use Rattle.meaning.specs.Lists.{all, keep, joinMap, joined, upFrom, bytes, field}
+use Rattle.meaning.specs.Lists.{all, keep, joined, upFrom, bytes, field}
 use Rattle.meaning.specs.Looks.{lookCount, pack, unpack}
 use Rattle.meaning.specs.Refusals.{isGood}
 use Rattle.meaning.specs.Codes.{tokens, takesCell}
@@ -80,8 +80,8 @@ every : {A : Type 0} {P : A → Type 0} → ((x : A) → P x) → (xs : List A) 
 every h [] = nil
 every h (x ∷ xs) = cons (h x) (every h xs)
 
-join-bound : {A : Type 0} (f : A → List ℕ) (n : ℕ) {xs : List A} → All (λ (x : A). length (f x) ≤ n) xs → length (joinMap f xs) ≤ n * length xs
-unfolding joinMap
+join-bound : {A : Type 0} (f : A → List ℕ) (n : ℕ) {xs : List A} → All (λ (x : A). length (f x) ≤ n) xs → length (flatMap f xs) ≤ n * length xs
+unfolding flatMap
 join-bound f n nil = omega arith
 join-bound f n (cons h k) = simp length-append (omega (arith, join-bound f n k))
 
@@ -128,7 +128,7 @@ points-bound c = omega arith
 span-bound : (g : List Cell) → length (writePiece (span (spanOf g))) ≤ 32 + 5 * length g
 unfolding writePiece writeSpan spanOf styleName joined bytes
 span-bound g =
-    let ps = joinMap points g in
+    let ps = flatMap points g in
     simp length-append
     (omega (
       arith,
@@ -139,10 +139,10 @@ span-bound g =
 
 -- the bytes of pieces
 abbrev size : List Piece → ℕ
-size ps = length (joinMap writePiece ps)
+size ps = length (flatMap writePiece ps)
 
 size-append : (ps qs : List Piece) → size (ps ++ qs) ≡ size ps + size qs
-size-append ps qs = ap length (join-append writePiece ps qs) ∙ length-append (joinMap writePiece ps) (joinMap writePiece qs)
+size-append ps qs = ap length (join-append writePiece ps qs) ∙ length-append (flatMap writePiece ps) (flatMap writePiece qs)
 
 -- a row: its cells are as many as its tokens that take one, those shown are no more, and each is at worst a span by itself
 pub cells-length : (p : Pen) (ts : List Token) → length (cellsFrom p ts) ≡ length (keep takesCell ts)
@@ -170,7 +170,7 @@ back-bound [] = omega arith
 back-bound (c ∷ cs) = omega (arith, last-bound c (trimBack cs), back-bound cs)
 
 from-bound : (cur cs : List Cell) → size (map span (map spanOf (spansFrom cur cs))) ≤ 32 + 5 * length cur + 37 * length cs
-unfolding spansFrom joinMap
+unfolding spansFrom flatMap
 from-bound cur [] = simp length-append (omega (arith, span-bound cur))
 from-bound cur (c ∷ cs) =
     by-test (uniform (cur ++ (c ∷ [])))
@@ -178,7 +178,7 @@ from-bound cur (c ∷ cs) =
     (λ e. rw (e, spansFrom) (simp length-append (omega (arith, span-bound cur, from-bound (c ∷ []) cs))))
 
 spans-size : (cs : List Cell) → size (map span (map spanOf (spans cs))) ≤ 37 * length cs
-unfolding spans joinMap
+unfolding spans flatMap
 spans-size [] = omega arith
 spans-size (c ∷ cs) = omega (arith, from-bound (c ∷ []) cs)
 
@@ -197,7 +197,7 @@ row-bound p r e =
 
 -- the rows of a subtitle, each with a tt:br
 later-bound : (p : Pen) (rs : List (List Token)) → all isShort rs ≡ true → size (laterRows (cellRows p rs)) ≤ 2376 * length rs
-unfolding cellRows laterRows joinMap writePiece bytes
+unfolding cellRows laterRows flatMap writePiece bytes
 later-bound p [] e = omega arith
 later-bound p (r ∷ rs) e =
     let s = test-split isShort r rs e in
@@ -209,7 +209,7 @@ later-bound p (r ∷ rs) e =
     )
 
 rows-later : (rs : List (List Cell)) → size (rowPieces rs) ≤ size (laterRows rs)
-unfolding rowPieces laterRows joinMap writePiece bytes
+unfolding rowPieces laterRows flatMap writePiece bytes
 rows-later [] = omega arith
 rows-later (r ∷ rs) = omega arith
 
@@ -303,7 +303,7 @@ style-bound look =
     (omega (arith, digits-length 3 look, colour-bound (l .colour), colour-bound (l .background), height-bound (l .double)))
 
 -- a document: beside its paragraphs, fixed text and the style lines
-render-bound : (d : Document) → length (render d) ≤ 20000 + length (joinMap writeParagraph (d .paragraphs))
+render-bound : (d : Document) → length (render d) ≤ 20000 + length (flatMap writeParagraph (d .paragraphs))
 unfolding render joined beforeRate beforeStyles beforeParagraphs afterParagraphs bytes
 render-bound d =
     let looks = looksUsed (d .paragraphs) in
@@ -331,7 +331,7 @@ module _ (mode : ℕ) (file : List ℕ) (p : Progress (List Subtitle)) (c : outc
   pub subtitles-bound : length (p .gathered) ≤ 99999
   subtitles-bound = omega (arith, held .few, tnb-bound mode file (rule-kept mode file p c))
 
-  pub paragraphs-bound : length (joinMap writeParagraph (map (paragraphOf (formatOf mode file)) (p .gathered))) ≤ 6000000000
+  pub paragraphs-bound : length (flatMap writeParagraph (map (paragraphOf (formatOf mode file)) (p .gathered))) ≤ 6000000000
   paragraphs-bound =
       omega (
         arith,

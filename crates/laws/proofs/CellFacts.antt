@@ -4,7 +4,7 @@ use Prim.Native.Nat.{ℕ, zero, suc, _+_, _*_}
 use native.Mathlib.Omega.{arith}
 use mathlib.Core.Path.{_≡_, refl, ap}
 use mathlib.Core.Bool.{Bool, true, false}
-use mathlib.Core.List.{List, [], _∷_, _++_, map}
+use mathlib.Core.List.{List, [], _∷_, _++_, map, flatMap}
 use lib.Dec.{eqb, ltb}
 use lib.ListN.{getD}
 use borrow.Author.Tests.{ltb-true}
@@ -12,11 +12,11 @@ use Rattle.meaning.specs.declared.Token.{Token}
 use Rattle.meaning.specs.declared.Token.the-variants.{Character, Control, RowEnd, Unlisted}
 use Rattle.meaning.specs.declared.Look.{Look}
 use Rattle.meaning.specs.declared.Pen.{Pen}
-use Rattle.meaning.specs.Lists.{all, joinMap}
+use Rattle.meaning.specs.Lists.{all}
 use Rattle.meaning.specs.Tables.{latinTable, composedTable}
 use Rattle.meaning.specs.Characters.{latin, accent, letter, composed}
 use Rattle.meaning.specs.Codes.{isControl, characterOf, codeToken, pairToken, isAccent, tokens, isRowEnd, takesCell}
-use Rattle.meaning.specs.Rows.{splitRows, breaksPaired, pairedFrom, rows}
+use Rattle.meaning.specs.Rows.{splitRows, breaksPaired, pairedFrom, rowsOf, rows}
 use Rattle.meaning.specs.Cells.{Cell, points, glyphs, cellCharacter, controlHere, controlNext, lookHere, lookNext, newPen, cellOf, penAfter, cellsOf, cellsFrom, rowStart, penAfterRow, cellRows, isBlank}
 use Rattle.meaning.specs.Spans.{foregroundOf, lookOf, uniform, spansFrom, spans}
 use Rattle.meaning.specs.Profile.{isScalar}
@@ -102,7 +102,7 @@ module _ {P : Token → Type 0} where
       (λ e. rw (e, pairedFrom) (cons p (paired-all false ts h)))
 
   rows-all : (mode : ℕ) (ts : List Token) → All P ts → All (All P) (rows mode ts)
-  unfolding rows
+  unfolding rowsOf
   rows-all mode ts h =
       by-test (breaksPaired mode ts)
       (λ e. rw e (split-all (pairedFrom false ts) (paired-all false ts h)))
@@ -149,14 +149,14 @@ cell-scalar RowEnd h = refl
 cell-scalar Unlisted h = refl
 
 -- reading back the code points of cells gives their characters
-pub glyphs-points : {cs : List Cell} → All Sound cs → glyphs (joinMap points cs) ≡ map (λ (c : Cell). c .character) cs
-unfolding glyphs points joinMap
+pub glyphs-points : {cs : List Cell} → All Sound cs → glyphs (flatMap points cs) ≡ map (λ (c : Cell). c .character) cs
+unfolding glyphs points flatMap
 glyphs-points nil = refl
 glyphs-points (cons {x = c} s h) = ap (λ (l : List ℕ). c .character ∷ l) (glyphs-points h)
 
 -- and they are such that UTF-8 writes
-pub points-scalar : {cs : List Cell} → All Sound cs → All (λ (p : ℕ). isScalar p ≡ true) (joinMap points cs)
-unfolding points joinMap
+pub points-scalar : {cs : List Cell} → All Sound cs → All (λ (p : ℕ). isScalar p ≡ true) (flatMap points cs)
+unfolding points flatMap
 points-scalar nil = nil
 points-scalar (cons s h) = cons (s .character) (points-scalar h)
 

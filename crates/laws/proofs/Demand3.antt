@@ -13,7 +13,7 @@ use Rattle.meaning.specs.Walk.{Subtitle, outcome, subtitlesOf}
 use Rattle.meaning.specs.Document.{Document, render, documentSpans}
 use Rattle.meaning.specs.Conversion.{documentOf, acceptedAnswer, answer, output}
 use Rattle.meaning.specs.Profile.{inProfile, Writes, Shows, spanElements}
-use Rattle.laws.specs.Demands.{Bytes, FewestSpans}
+use Rattle.laws.specs.Demands.{FewestSpans}
 use Rattle.meaning.proofs.Logic.{and-true}
 use Rattle.meaning.proofs.ListLaws.{All}
 use Rattle.meaning.proofs.ListLaws.All.{nil, cons}
@@ -21,7 +21,7 @@ use Rattle.laws.proofs.FewestInAll.{document-fewest}
 use Rattle.laws.proofs.Elements.{elements-are-spans}
 use Rattle.laws.proofs.Walk.{Made}
 use Rattle.laws.proofs.OwnRows.{SoundRows, own-shows}
-use Rattle.laws.proofs.OwnProfile.{file-bytes, made-sound, own-paragraphs}
+use Rattle.laws.proofs.OwnProfile.{Bytes, file-bytes, made-sound, own-paragraphs}
 use Rattle.laws.proofs.Accepted.{Accepted, accepted-file, rule-kept, rate-right, front-is-document}
 
 all-sound : (f : Format) {ss : List Subtitle} → All (Made Bytes f) ss → All SoundRows ss

@@ -5,19 +5,23 @@ use native.Mathlib.Omega.{arith}
 use native.Mathlib.Nat.{zero-add}
 use mathlib.Core.Path.{_≡_, refl, sym, ap, _∙_}
 use mathlib.Core.Bool.{Bool, true, false, cond}
-use mathlib.Core.List.{List, [], _∷_, _++_, append-assoc, append-nil}
+use mathlib.Core.List.{List, [], _∷_, _++_, append-assoc, append-nil, flatMap}
 use lib.Dec.{ltb, eqb}
-use lib.ListN.{length-append}
+use lib.ListN.{length, length-append}
 use borrow.Author.Tests.{ne-eqb, eqb-false}
-use Rattle.meaning.specs.Lists.{joinMap, joined, bytes}
+use Rattle.meaning.specs.Lists.{joined, bytes}
 use Rattle.meaning.specs.declared.Time.{Time}
-use Rattle.meaning.specs.Document.{Span, Piece, Alignment, Paragraph, Document, digits, withoutZeros, decimal, utf8, escaped, styleName, writeSpan, writePiece, writeTime, alignmentName, writeParagraph, channel, colourName, sizeName, writeStyle, looksUsed, beforeRate, beforeStyles, beforeParagraphs, afterParagraphs, render, looksOf, documentLooks, countSpans, documentSpans}
+use Rattle.meaning.specs.Document.{Span, Piece, Alignment, Paragraph, Document, digits, withoutZeros, decimal, utf8, escaped, styleName, writeSpan, writePiece, writeTime, alignmentName, writeParagraph, channel, colourName, sizeName, writeStyle, looksUsed, beforeRate, beforeStyles, beforeParagraphs, afterParagraphs, render, looksOf, documentLooks, documentSpans}
 use Rattle.meaning.specs.Document.Piece.{span, br}
 use Rattle.meaning.specs.Document.Alignment.{left, centre, right}
 use Rattle.meaning.specs.Profile.{startsWith, spanElements}
 use Rattle.meaning.proofs.Logic.{by-test}
 use Rattle.meaning.proofs.ListLaws.{All, all-append}
 use Rattle.meaning.proofs.ListLaws.All.{nil, cons}
+
+-- the number of spans among pieces
+unfoldable pub countSpans : List Piece → ℕ
+countSpans ps = length (looksOf ps)
 
 -- bytes that hold n elements, whatever follows
 record Holds (n : ℕ) (x : List ℕ) : Type 0 where
@@ -105,8 +109,8 @@ in-escaped p =
     (λ g. rw (e, f, g) (fixed (bytes "&gt;") (λ s. refl)))
     (λ g. rw (e, f, g) (plain (plain-utf8 p (λ z. eqb-false p 60 f (sym z)))))))
 
-in-each : {A : Type 0} (f : A → List ℕ) (xs : List A) → ((x : A) → Holds 0 (f x)) → Holds 0 (joinMap f xs)
-unfolding joinMap
+in-each : {A : Type 0} (f : A → List ℕ) (xs : List A) → ((x : A) → Holds 0 (f x)) → Holds 0 (flatMap f xs)
+unfolding flatMap
 in-each f [] h = nothing
 in-each f (x ∷ xs) h = h x & in-each f xs h
 
@@ -124,8 +128,8 @@ in-span s =
     opening & in-style-name (s .look) & fixed (bytes "\">") (λ s. refl) & in-each escaped (s .characters) in-escaped
     & fixed (bytes "</tt:span>") (λ s. refl)
 
-in-pieces : (ps : List Piece) → Holds (countSpans ps) (joinMap writePiece ps)
-unfolding joinMap countSpans looksOf writePiece spanElements startsWith bytes
+in-pieces : (ps : List Piece) → Holds (countSpans ps) (flatMap writePiece ps)
+unfolding flatMap countSpans looksOf writePiece spanElements startsWith bytes
 in-pieces [] = nothing
 in-pieces (span s ∷ ps) = num (omega arith) (in-span s & in-pieces ps)
 in-pieces (br ∷ ps) = num (omega arith) (fixed (bytes "<tt:br/>") (λ s. refl) & in-pieces ps)
@@ -151,8 +155,8 @@ in-paragraph p =
     & fixed (bytes "\" begin=\"") (λ s. refl) & in-time (p .begin) & fixed (bytes "\" end=\"") (λ s. refl) & in-time (p .end)
     & fixed (bytes "\">") (λ s. refl) & in-pieces (p .pieces) & fixed (bytes "</tt:p>\n") (λ s. refl))
 
-in-paragraphs : (ps : List Paragraph) → Holds (documentSpans ps) (joinMap writeParagraph ps)
-unfolding joinMap documentSpans documentLooks countSpans
+in-paragraphs : (ps : List Paragraph) → Holds (documentSpans ps) (flatMap writeParagraph ps)
+unfolding flatMap documentSpans documentLooks countSpans
 in-paragraphs [] = nothing
 in-paragraphs (p ∷ ps) = num (sym (length-append (looksOf (p .pieces)) (documentLooks ps))) (in-paragraph p & in-paragraphs ps)
 

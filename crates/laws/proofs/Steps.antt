@@ -10,6 +10,7 @@ use lib.ListN.{length, take, drop}
 use lib.Seq.{drop-drop}
 use Rattle.meaning.specs.declared.Refusal.{Refusal}
 use Rattle.meaning.specs.declared.Format.{Format}
+use Rattle.meaning.specs.Lists.{field}
 use Rattle.meaning.specs.Blocks.{gsiSize, blockSize, blocks, blockAt}
 use Rattle.meaning.specs.Sets.{BlockSet}
 use Rattle.meaning.specs.Walk.{Outcome, step, steps, walk}
@@ -53,7 +54,7 @@ module _ {A : Type 0} (f : Format) (rule : BlockSet → Refusal) (add : BlockSet
   module _ (x : A) (file : List ℕ) where
     -- one block more
     pub walk-more : (k : ℕ) → walk f rule add x file (k + 1) ≡ step f rule add k (walk f rule add x file k) (blockAt file k)
-    unfolding walk blockAt steps
+    unfolding walk blockAt field steps
     walk-more k =
         let z : 0 + k ≡ k = omega arith in
         rw (add-one, blocks-last k (drop gsiSize file), drop-drop)

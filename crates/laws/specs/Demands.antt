@@ -1,17 +1,13 @@
 -- What an accepted file is promised beside its answer and its buffer: document 01, demand 3.
 -- Assumes nothing.
-use Prim.Native.Nat.{ℕ, _≤_, _<_}
+use Prim.Native.Nat.{ℕ, _≤_}
 use mathlib.Core.Path.{_≡_}
 use mathlib.Core.List.{List}
-use lib.ListN.{getD, take}
+use lib.ListN.{take}
 use Rattle.meaning.specs.declared.Answer.{Answer}
 use Rattle.meaning.specs.Walk.{subtitlesOf, outcome}
 use Rattle.meaning.specs.Document.{Document, render}
 use Rattle.meaning.specs.Profile.{Writes, Shows, spanElements}
-
--- a list of bytes
-abbrev pub Bytes : List ℕ → Type 0
-Bytes s = (i : ℕ) → getD s i 0 < 256
 
 -- The document in the buffer is of the profile and shows the file's rows; the answer counts its tt:span elements;
 -- and no document that shows the same has fewer, whether it is of the profile or not.

@@ -3,18 +3,18 @@
 use Prim.Native.Nat.{ℕ}
 use Prim.Native.String.{String}
 use mathlib.Core.Bool.{Bool, true, false, _&&_}
-use mathlib.Core.List.{List, [], _∷_, _++_, map}
+use mathlib.Core.List.{List, [], _∷_, _++_, map, flatMap}
 use lib.Dec.{T, eqb}
 use lib.ListN.{replicate}
 use Rattle.meaning.specs.declared.Answer.{Answer}
-use Rattle.meaning.specs.Lists.{all, joinMap, same, bytes}
+use Rattle.meaning.specs.Lists.{all, same, bytes}
 use Rattle.meaning.specs.declared.Format.{Format}
 use Rattle.meaning.specs.Gsi.{formatOf}
 use Rattle.meaning.specs.Walk.{Subtitle, Outcome, outcome}
 use Rattle.meaning.specs.Walk.Outcome.{refused, accepted}
 use Rattle.meaning.specs.Document.{Paragraph, writePiece, utf8}
 use Rattle.meaning.specs.Conversion.{paragraphOf, answer}
-use Rattle.meaning.specs.Computed.{computed}
+use Rattle.meaning.proofs.Computed.{computed}
 use Rattle.meaning.proofs.Files.{gsi, block, subtitle, fileOf, files}
 
 -- a break mode and a file, the answer's number and place, and what stands in each paragraph
@@ -27,13 +27,13 @@ record Case : Type 0 where
 
 paragraphsIn : Format → Outcome (List Subtitle) → List (List ℕ)
 paragraphsIn f (refused r) = []
-paragraphsIn f (accepted p) = map (λ (q : Paragraph). joinMap writePiece (q .pieces)) (map (paragraphOf f) (p .gathered))
+paragraphsIn f (accepted p) = map (λ (q : Paragraph). flatMap writePiece (q .pieces)) (map (paragraphOf f) (p .gathered))
 
 sameTexts : List (List ℕ) → List String → Bool
 sameTexts [] [] = true
 sameTexts [] (t ∷ ts) = false
 sameTexts (s ∷ ss) [] = false
-sameTexts (s ∷ ss) (t ∷ ts) = elim (same s (joinMap utf8 (bytes t))) [ true ↦ sameTexts ss ts | false ↦ false ]
+sameTexts (s ∷ ss) (t ∷ ts) = elim (same s (flatMap utf8 (bytes t))) [ true ↦ sameTexts ss ts | false ↦ false ]
 
 sameAnswer : Answer → ℕ → ℕ → Bool
 sameAnswer a number place = eqb (a .number) number && eqb (a .place) place

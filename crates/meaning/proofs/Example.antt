@@ -6,7 +6,7 @@ use lib.Dec.{T}
 use lib.ListN.{length, replicate}
 use Rattle.meaning.specs.Lists.{same, bytes}
 use Rattle.meaning.specs.Conversion.{output}
-use Rattle.meaning.specs.Computed.{computed}
+use Rattle.meaning.proofs.Computed.{computed}
 use Rattle.meaning.proofs.Files.{subtitle, fileOf, files}
 
 exampleFile : List ℕ

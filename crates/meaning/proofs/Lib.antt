@@ -1,3 +1,4 @@
+pub mod Computed
 pub mod Files
 pub mod Example
 pub mod Cases

@@ -6,10 +6,10 @@ use native.Mathlib.Numerals.{add-one}
 use native.Mathlib.Nat.{le-of-suc-le-suc, not-suc-le-zero}
 use mathlib.Core.Path.{_≡_, refl, sym, ap, _∙_}
 use mathlib.Core.Bool.{Bool, true, false, _&&_, _||_, and-false, or-true}
-use mathlib.Core.List.{List, [], _∷_, _++_, map, append-assoc}
+use mathlib.Core.List.{List, [], _∷_, _++_, map, append-assoc, flatMap}
 use lib.ListN.{length, getD, take, drop, replicate, length-take, drop-of-length-le}
 use lib.Seq.{drop-cons}
-use Rattle.meaning.specs.Lists.{all, any, takeWhile, ontoFirst, joinMap}
+use Rattle.meaning.specs.Lists.{all, any, takeWhile, ontoFirst}
 use Rattle.meaning.proofs.Logic.{by-test, false-not-true}
 
 -- tests over a list, one element at a time
@@ -81,10 +81,10 @@ unfolding ontoFirst
 all-onto x p nil = cons (cons p nil) nil
 all-onto x p (cons q h) = cons (cons p q) h
 
-pub join-append : {A : Type 0} (f : A → List ℕ) (xs ys : List A) → joinMap f (xs ++ ys) ≡ joinMap f xs ++ joinMap f ys
-unfolding joinMap
+pub join-append : {A : Type 0} (f : A → List ℕ) (xs ys : List A) → flatMap f (xs ++ ys) ≡ flatMap f xs ++ flatMap f ys
+unfolding flatMap
 join-append f [] ys = refl
-join-append f (x ∷ xs) ys = ap (λ (l : List ℕ). f x ++ l) (join-append f xs ys) ∙ sym (append-assoc (f x) (joinMap f xs) (joinMap f ys))
+join-append f (x ∷ xs) ys = ap (λ (l : List ℕ). f x ++ l) (join-append f xs ys) ∙ sym (append-assoc (f x) (flatMap f xs) (flatMap f ys))
 
 -- the test `all`, clause by clause
 module _ {A : Type 0} (p : A → Bool) where

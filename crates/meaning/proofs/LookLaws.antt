@@ -5,7 +5,7 @@ use native.Mathlib.Omega.{arith}
 use mathlib.Core.Path.{_≡_, refl, ap}
 use mathlib.Core.Bool.{Bool, false}
 use lib.Dec.{eqb}
-use borrow.Author.Tests.{eq-eqb, ne-eqb, eqb-true, eqb-false}
+use borrow.Author.Tests.{eq-eqb, ne-eqb}
 use Rattle.meaning.specs.declared.Look.{Look}
 use Rattle.meaning.specs.Looks.{lookCount, whiteOnBlack, pack, unpack, shared, free, blend, onBlack}
 use Rattle.meaning.specs.Cells.{Cell, isBlank}
@@ -82,11 +82,3 @@ module _ (l : Look) (h : ThreeBits l) where
 
   pub unpack-pack : unpack (pack l) ≡ l
   unpack-pack = λ i. record { double = back-double i; background = back-background i; colour = back-colour i }
-
--- the shared part of a packed look
-pub packed-shared : (n : ℕ) → n / 64 % 2 + 2 * (n / 8 % 8) ≡ shared (unpack n)
-unfolding shared unpack
-packed-shared n =
-    by-test (eqb (n / 64 % 2) 1)
-    (λ e. rw e (omega (arith, eqb-true (n / 64 % 2) 1 e)))
-    (λ e. rw e (omega (arith, eqb-false (n / 64 % 2) 1 e)))

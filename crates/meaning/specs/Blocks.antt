@@ -11,15 +11,18 @@ use Rattle.meaning.specs.declared.Screen.{Screen}
 use Rattle.meaning.specs.declared.Format.{Format}
 use Rattle.meaning.specs.Lists.{takeWhile, field}
 
--- the bytes of the GSI block, of a TTI block after it, and of a TTI block's text
+-- the bytes of the GSI block, of a TTI block's header and text, and of a TTI block
 abbrev pub gsiSize : ℕ
 gsiSize = 1024
 
-abbrev pub blockSize : ℕ
-blockSize = 128
+abbrev pub headerSize : ℕ
+headerSize = 16
 
 abbrev pub textSize : ℕ
 textSize = 112
+
+abbrev pub blockSize : ℕ
+blockSize = headerSize + textSize
 
 -- n blocks, one after another
 unfoldable pub blocks : ℕ → List ℕ → List (List ℕ)
@@ -28,7 +31,7 @@ blocks (suc n) s = take blockSize s ∷ blocks n (drop blockSize s)
 
 -- the block of a file at a place: its bytes, fewer where the file ends in it
 unfoldable pub blockAt : List ℕ → ℕ → List ℕ
-blockAt file k = take blockSize (drop (gsiSize + blockSize * k) file)
+blockAt file k = field (gsiSize + blockSize * k) blockSize file
 
 -- a time: four bytes from an offset
 unfoldable pub timeAt : ℕ → List ℕ → Time
@@ -55,7 +58,7 @@ inText c = not (eqb c 143)
 
 -- a block's text, 16 to 127: the bytes before the first 8Fh, all 112 if there is none
 unfoldable pub blockText : List ℕ → List ℕ
-blockText b = takeWhile inText (field 16 textSize b)
+blockText b = takeWhile inText (field headerSize textSize b)
 
 unfoldable pub timeInRange : ℕ → Time → Bool
 timeInRange rate t = ltb (t .hours) 24 && ltb (t .minutes) 60 && ltb (t .seconds) 60 && ltb (t .frames) rate
@@ -71,12 +74,18 @@ timesRight rate start stop =
 unfoldable pub isComment : Header → Bool
 isComment h = eqb (h .cf) 1
 
-unfoldable pub isPlaced : Screen → ℕ → ℕ → Bool
-isPlaced s vp jc = leb (s .first) vp && ltb vp (s .end) && leb jc 3
+-- a line of the screen
+unfoldable pub onScreen : Screen → ℕ → Bool
+onScreen s vp = leb (s .first) vp && ltb vp (s .end)
 
 -- the rules 10 to 12; a comment is not tested for them
 unfoldable pub subtitleRules : Format → Header → List (ℕ × Bool)
-subtitleRules f h = (10, eqb (h .cs) 0) ∷ (11, timesRight (f .rate) (h .tci) (h .tco)) ∷ (12, isPlaced (f .screen) (h .vp) (h .jc)) ∷ []
+subtitleRules f h =
+    (10, eqb (h .cs) 0)
+    ∷ (11, timesRight (f .rate) (h .tci) (h .tco))
+    ∷ (12, onScreen (f .screen) (h .vp))
+    ∷ (12, leb (h .jc) 3)
+    ∷ []
 
 -- the rules 8 to 12 over a set's first block. `least` is the least SN that rule 9 allows.
 unfoldable pub firstBlockRules : Format → ℕ → Header → List (ℕ × Bool)

@@ -9,17 +9,21 @@ use Rattle.meaning.specs.declared.Token.the-variants.{Character, Control
 use Rattle.meaning.specs.declared.Look.{Look}
 use Rattle.meaning.specs.declared.Pen.{Pen}
 use Rattle.meaning.specs.Codes.{takesCell}
-use Rattle.meaning.specs.Looks.{whiteOnBlack, onBlack}
+use Rattle.meaning.specs.Looks.{black, whiteOnBlack, withBackground, withColour, onBlack}
 
 pub record Cell : Type 0 where
   pub character : ℕ
   pub look : Look
 
--- the code points of a cell's character
+-- U+0020
+abbrev pub blank : ℕ
+blank = 32
+
+-- the code points of a cell's character: one
 unfoldable pub points : Cell → List ℕ
 points c = c .character ∷ []
 
--- the characters that code points spell, one for each cell
+-- the characters that code points spell, one for each cell: each code point is one
 unfoldable pub glyphs : List ℕ → List ℕ
 glyphs [] = []
 glyphs (p ∷ ps) = p ∷ glyphs ps
@@ -27,18 +31,17 @@ glyphs (p ∷ ps) = p ∷ glyphs ps
 -- a control yields a blank cell
 unfoldable pub cellCharacter : Token → ℕ
 cellCharacter (Character p) = p
-cellCharacter (Control c) = 32
-cellCharacter RowEnd = 32
-cellCharacter Unlisted = 32
+cellCharacter (Control c) = blank
+cellCharacter RowEnd = blank
+cellCharacter Unlisted = blank
 
 -- 1Ch and 1Dh hold at their own cell: black background, and the current colour as background
 unfoldable pub controlHere : ℕ → Look → Look
-controlHere c l =
-    record { double = l .double; background = cond (eqb c 28) 0 (cond (eqb c 29) (l .colour) (l .background)); colour = l .colour }
+controlHere c l = withBackground (cond (eqb c 28) black (cond (eqb c 29) (l .colour) (l .background))) l
 
 -- 00h to 07h, a colour, hold from the next cell
 unfoldable pub controlNext : ℕ → Look → Look
-controlNext c l = record { double = l .double; background = l .background; colour = cond (ltb c 8) c (l .colour) }
+controlNext c l = withColour (cond (ltb c 8) c (l .colour)) l
 
 -- the look of a token's cell, from the look before it, and the look after it
 unfoldable pub lookHere : Token → Look → Look
@@ -77,7 +80,8 @@ unfoldable pub penEnd : Pen → List Token → Pen
 penEnd p [] = p
 penEnd p (t ∷ ts) = penEnd (penAfter t p) ts
 
--- the pen at the start of a row, from the pen before it: each row starts white on black, in the subtitle's height
+-- the pen at the start of a row, from the pen before it: each row starts white on black, in the subtitle's height, whatever
+-- its tokens are
 unfoldable pub rowStart : List Token → Pen → Pen
 rowStart row p = newPen (p .look .double)
 
@@ -95,7 +99,7 @@ cellRows p (r ∷ rs) = cellsOfRow p r ∷ cellRows (penAfterRow p r) rs
 
 -- a blank is the cell of 20h or of a control
 unfoldable pub isBlank : Cell → Bool
-isBlank c = eqb (c .character) 32
+isBlank c = eqb (c .character) blank
 
 unfoldable pub isBlankOnBlack : Cell → Bool
 isBlankOnBlack c = isBlank c && onBlack (c .look)

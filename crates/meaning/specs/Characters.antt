@@ -16,6 +16,10 @@ unfoldable pub accents : List ℕ
 accents =
     0 ∷ 1 ∷ 2 ∷ 3 ∷ 4 ∷ 5 ∷ 6 ∷ 7 ∷ 8 ∷ 0 ∷ 9 ∷ 10 ∷ 0 ∷ 11 ∷ 12 ∷ 13 ∷ []
 
+-- the combining mark of each of the thirteen; the letters with it stand in its row of the composed ones
+unfoldable pub marks : List ℕ
+marks = 768 ∷ 769 ∷ 770 ∷ 771 ∷ 772 ∷ 774 ∷ 775 ∷ 776 ∷ 778 ∷ 807 ∷ 779 ∷ 808 ∷ 780 ∷ []
+
 unfoldable pub accent : ℕ → ℕ
 accent c = elim (leb 192 c) [ true ↦ getD accents (c - 192) 0 | false ↦ 0 ]
 

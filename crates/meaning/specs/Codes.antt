@@ -57,7 +57,7 @@ isRowEnd (Control c) = false
 isRowEnd RowEnd = true
 isRowEnd Unlisted = false
 
--- a token of a row that takes a cell; no row holds a row end
+-- a token of a row takes a cell: every one does, and no row holds a row end
 unfoldable pub takesCell : Token → Bool
 takesCell (Character p) = true
 takesCell (Control c) = true

@@ -2,12 +2,11 @@
 -- Assumes nothing.
 use Prim.Native.Nat.{ℕ, zero, suc, _+_, _-_}
 use mathlib.Core.Bool.{Bool, true, false}
-use mathlib.Core.List.{List, [], _∷_, _++_, map}
+use mathlib.Core.List.{List, [], _∷_, _++_, map, flatMap}
 use lib.Dec.{leb}
 use lib.ListN.{length, drop, replicate}
 use Rattle.meaning.specs.declared.Answer.{Answer}
 use Rattle.meaning.specs.declared.Lines.{Lines}
-use Rattle.meaning.specs.Lists.{joinMap}
 use Rattle.meaning.specs.Looks.{pack}
 use Rattle.meaning.specs.Rows.{linesOf, rowCount}
 use Rattle.meaning.specs.Cells.{Cell, points, shown}
@@ -24,7 +23,7 @@ use Rattle.meaning.specs.Document.Piece.{span, br}
 use Rattle.meaning.specs.Document.Alignment.{left, centre, right}
 
 unfoldable pub spanOf : List Cell → Span
-spanOf cs = record { look = pack (lookOf cs); characters = joinMap points cs }
+spanOf cs = record { look = pack (lookOf cs); characters = flatMap points cs }
 
 unfoldable pub rowSpans : List Cell → List Span
 rowSpans row = map spanOf (spans (shown row))
@@ -83,9 +82,13 @@ acceptedAnswer written c spans =
       spans = spans;
     }
 
+-- rule 16: a document of some length fits the buffer
+abbrev pub fitsIn : ℕ → ℕ → Bool
+fitsIn room n = leb n room
+
 -- the answer to a file within the rules 1 to 15, by its counts and its document's length and spans
 unfoldable pub answerBy : ℕ → Counts → ℕ → ℕ → Answer
-answerBy room c n spans = elim (leb n room) [ true ↦ acceptedAnswer n c spans | false ↦ refusedAnswer (record { number = 16; place = 0 }) n ]
+answerBy room c n spans = elim (fitsIn room n) [ true ↦ acceptedAnswer n c spans | false ↦ refusedAnswer (record { number = 16; place = 0 }) n ]
 
 unfoldable pub answerTo : Format → ℕ → Outcome (List Subtitle) → Answer
 answerTo f room (refused r) = refusedAnswer r 0
@@ -101,7 +104,7 @@ unfoldable pub bufferAfter : Format → List ℕ → Outcome (List Subtitle) →
 bufferAfter f buffer (refused r) = buffer
 bufferAfter f buffer (accepted p) =
     let d = render (documentOf f (p .gathered)) in
-    elim (leb (length d) (length buffer)) [ true ↦ d ++ drop (length d) buffer | false ↦ buffer ]
+    elim (fitsIn (length buffer) (length d)) [ true ↦ d ++ drop (length d) buffer | false ↦ buffer ]
 
 -- what the buffer holds at the end: untouched after a refusal; else the document, and the bytes after it untouched
 unfoldable pub output : ℕ → List ℕ → List ℕ → List ℕ

@@ -2,10 +2,10 @@
 -- Assumes nothing.
 use Prim.Native.Nat.{ℕ, zero, suc, _+_, _/_, _%_}
 use mathlib.Core.Bool.{Bool, true, false, cond}
-use mathlib.Core.List.{List, [], _∷_, _++_}
+use mathlib.Core.List.{List, [], _∷_, _++_, flatMap}
 use lib.Dec.{ltb, eqb}
 use lib.ListN.{length}
-use Rattle.meaning.specs.Lists.{any, keep, joinMap, joined, upFrom, bytes}
+use Rattle.meaning.specs.Lists.{any, keep, joined, upFrom, bytes}
 use Rattle.meaning.specs.Looks.{lookCount, unpack}
 use Rattle.meaning.specs.declared.Time.{Time}
 
@@ -68,7 +68,7 @@ styleName look = bytes "s" ++ digits 3 look
 unfoldable pub writeSpan : Span → List ℕ
 writeSpan s =
     joined
-    (bytes "<tt:span style=\"" ∷ styleName (s .look) ∷ bytes "\">" ∷ joinMap escaped (s .characters) ∷ bytes "</tt:span>" ∷ [])
+    (bytes "<tt:span style=\"" ∷ styleName (s .look) ∷ bytes "\">" ∷ flatMap escaped (s .characters) ∷ bytes "</tt:span>" ∷ [])
 
 unfoldable pub writePiece : Piece → List ℕ
 writePiece (span s) = writeSpan s
@@ -89,7 +89,7 @@ writeParagraph p =
     joined
     (bytes "<tt:p xml:id=\"sub" ∷ decimal (p .number) ∷ bytes "\" style=\"" ∷ alignmentName (p .alignment)
     ∷ bytes "\" begin=\"" ∷ writeTime (p .begin) ∷ bytes "\" end=\"" ∷ writeTime (p .end) ∷ bytes "\">"
-    ∷ joinMap writePiece (p .pieces) ∷ bytes "</tt:p>\n" ∷ [])
+    ∷ flatMap writePiece (p .pieces) ∷ bytes "</tt:p>\n" ∷ [])
 
 unfoldable pub channel : ℕ → List ℕ
 channel bit = cond (eqb bit 0) (bytes "00") (bytes "ff")
@@ -118,7 +118,7 @@ abbrev pub paragraphLooks : Paragraph → List ℕ
 paragraphLooks p = looksOf (p .pieces)
 
 unfoldable pub documentLooks : List Paragraph → List ℕ
-documentLooks ps = joinMap paragraphLooks ps
+documentLooks ps = flatMap paragraphLooks ps
 
 unfoldable pub isUsed : List Paragraph → ℕ → Bool
 isUsed ps look = any (eqb look) (documentLooks ps)
@@ -140,15 +140,13 @@ beforeParagraphs = bytes "</tt:styling><tt:layout>\n<tt:region xml:id=\"bottom\"
 unfoldable pub afterParagraphs : List ℕ
 afterParagraphs = bytes "</tt:div></tt:body></tt:tt>\n"
 
+-- all that stands before the paragraphs, by the frame rate and the looks in use
+abbrev pub headParts : ℕ → List ℕ → List (List ℕ)
+headParts rate looks = beforeRate ∷ digits 2 rate ∷ beforeStyles ∷ flatMap writeStyle looks ∷ beforeParagraphs ∷ []
+
 unfoldable pub render : Document → List ℕ
-render d =
-    joined
-    (beforeRate ∷ digits 2 (d .rate) ∷ beforeStyles ∷ joinMap writeStyle (looksUsed (d .paragraphs))
-    ∷ beforeParagraphs ∷ joinMap writeParagraph (d .paragraphs) ∷ afterParagraphs ∷ [])
+render d = joined (headParts (d .rate) (looksUsed (d .paragraphs)) ++ (flatMap writeParagraph (d .paragraphs) ∷ afterParagraphs ∷ []))
 
--- the spans of a paragraph, and of a document
-unfoldable pub countSpans : List Piece → ℕ
-countSpans ps = length (looksOf ps)
-
+-- the number of a document's spans
 unfoldable pub documentSpans : List Paragraph → ℕ
 documentSpans ps = length (documentLooks ps)

@@ -43,9 +43,12 @@ unfoldable pub valueFrom : ℕ → List ℕ → ℕ
 valueFrom v [] = v
 valueFrom v (c ∷ cs) = valueFrom (10 * v + (c - 48)) cs
 
--- TNB, 238 to 242
+-- TNB, 238 to 242: its bytes, and the number that they write
+abbrev pub tnbField : List ℕ → List ℕ
+tnbField file = field 238 5 file
+
 unfoldable pub tnb : List ℕ → ℕ
-tnb file = valueFrom 0 (field 238 5 file)
+tnb file = valueFrom 0 (tnbField file)
 
 -- the first of the rules 1 to 6 that a break mode and a file break
 unfoldable pub fileRule : ℕ → List ℕ → Refusal
@@ -56,5 +59,5 @@ fileRule mode file =
     ∷ (3, isRate (rateOf file))
     ∷ (4, eqb (getD file 11 0) 49 || eqb (getD file 11 0) 50)
     ∷ (5, same (field 12 2 file) (bytes "00"))
-    ∷ (6, all isDigit (field 238 5 file) && eqb (tnb file) (blockCount file))
+    ∷ (6, all isDigit (tnbField file) && eqb (tnb file) (blockCount file))
     ∷ [])

@@ -14,4 +14,3 @@ pub mod Walk
 pub mod Document
 pub mod Conversion
 pub mod Profile
-pub mod Computed

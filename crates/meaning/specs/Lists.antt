@@ -33,21 +33,11 @@ module _ {A : Type 0} where
   ontoFirst x [] = (x ∷ []) ∷ []
   ontoFirst x (xs ∷ xss) = (x ∷ xs) ∷ xss
 
-  -- all but the first
-  unfoldable pub later : List A → List A
-  later [] = []
-  later (x ∷ xs) = xs
-
-  -- what a function gives for each element, joined
-  unfoldable pub joinMap : (A → List ℕ) → List A → List ℕ
-  joinMap f [] = []
-  joinMap f (x ∷ xs) = f x ++ joinMap f xs
-
 -- n bytes from an offset
 unfoldable pub field : ℕ → ℕ → List ℕ → List ℕ
 field from n s = take n (drop from s)
 
--- parts joined, in order
+-- parts joined, in order; nothing stands behind the last
 unfoldable pub joined : List (List ℕ) → List ℕ
 joined [] = []
 joined (x ∷ []) = x

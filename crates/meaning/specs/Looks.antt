@@ -9,8 +9,21 @@ use Rattle.meaning.specs.declared.Look.{Look}
 abbrev pub lookCount : ℕ
 lookCount = 128
 
+abbrev pub black : ℕ
+black = 0
+
+abbrev pub white : ℕ
+white = 7
+
 unfoldable pub whiteOnBlack : Bool → Look
-whiteOnBlack double = record { double = double; background = 0; colour = 7 }
+whiteOnBlack double = record { double = double; background = black; colour = white }
+
+-- a look with another background, and with another colour
+abbrev pub withBackground : ℕ → Look → Look
+withBackground n l = record { double = l .double; background = n; colour = l .colour }
+
+abbrev pub withColour : ℕ → Look → Look
+withColour n l = record { double = l .double; background = l .background; colour = n }
 
 unfoldable pub pack : Look → ℕ
 pack l = cond (l .double) 64 0 + 8 * l .background + l .colour
@@ -28,7 +41,7 @@ free l = l .colour
 
 -- the look that shares with one look and is in what is left open like another
 unfoldable pub blend : Look → Look → Look
-blend l m = record { double = l .double; background = l .background; colour = m .colour }
+blend l m = withColour (m .colour) l
 
 unfoldable pub onBlack : Look → Bool
-onBlack l = eqb (l .background) 0
+onBlack l = eqb (l .background) black

@@ -2,15 +2,15 @@
 -- Assumes nothing.
 use Prim.Native.Nat.{ℕ, _+_, _*_}
 use mathlib.Core.Bool.{Bool, true, false, cond, not, _&&_, _||_}
-use mathlib.Core.List.{List, [], _∷_}
+use mathlib.Core.List.{List, [], _∷_, tail}
 use lib.Dec.{leb, eqb}
-use lib.ListN.{length, getD}
+use lib.ListN.{length}
 use Rattle.meaning.specs.declared.Token.{Token}
 use Rattle.meaning.specs.declared.Rows.{Rows}
 use Rattle.meaning.specs.declared.Lines.{Lines}
 use Rattle.meaning.specs.declared.Refusal.{Refusal}
 use Rattle.meaning.specs.declared.Format.{Format}
-use Rattle.meaning.specs.Lists.{all, any, keep, ontoFirst, later}
+use Rattle.meaning.specs.Lists.{all, any, keep, takeWhile, ontoFirst}
 use Rattle.meaning.specs.Refusals.{firstBroken}
 use Rattle.meaning.specs.Codes.{isListed, isCharacter, isRowEnd, takesCell, isDoubleHeight}
 
@@ -19,9 +19,16 @@ unfoldable pub splitRows : List Token → List (List Token)
 splitRows [] = [] ∷ []
 splitRows (t ∷ ts) = elim (isRowEnd t) [ true ↦ [] ∷ splitRows ts | false ↦ ontoFirst t (splitRows ts) ]
 
+-- the first row: the tokens before the first row end
+unfoldable pub inRow : Token → Bool
+inRow t = not (isRowEnd t)
+
+unfoldable pub firstRow : List Token → List Token
+firstRow ts = takeWhile inRow ts
+
 -- a subtitle is double height if 0Dh stands in its first row
-unfoldable pub isDouble : List Token → Bool
-isDouble ts = any isDoubleHeight (getD (splitRows ts) 0 [])
+abbrev pub isDouble : List Token → Bool
+isDouble ts = any isDoubleHeight (firstRow ts)
 
 -- in break mode 2 and double height a pair of 8Ah ends a row
 abbrev pub isPaired : ℕ → Bool → Bool
@@ -39,8 +46,12 @@ pairedFrom second (t ∷ ts) =
       | false ↦ t ∷ pairedFrom false ts
     ]
 
-unfoldable pub rows : ℕ → List Token → List (List Token)
-rows mode ts = splitRows (cond (breaksPaired mode ts) (pairedFrom false ts) ts)
+-- the rows of a text where row ends are paired or not, and in a break mode
+unfoldable pub rowsOf : Bool → List Token → List (List Token)
+rowsOf paired ts = splitRows (cond paired (pairedFrom false ts) ts)
+
+abbrev pub rows : ℕ → List Token → List (List Token)
+rows mode ts = rowsOf (breaksPaired mode ts) ts
 
 -- no 0Dh after a code of 20h or above in its row
 unfoldable pub heightFirst : List Token → Bool
@@ -60,7 +71,7 @@ evenFrom odd (t ∷ ts) =
 unfoldable pub heightsRight : ℕ → List Token → Bool
 heightsRight mode ts =
     all heightFirst (rows mode ts)
-    && (isDouble ts || not (any (any isDoubleHeight) (later (rows mode ts))))
+    && (isDouble ts || not (any (any isDoubleHeight) (tail (rows mode ts))))
     && (not (breaksPaired mode ts) || evenFrom false ts)
 
 -- rows and teletext lines are separate counts: a double row covers two lines

@@ -29,6 +29,16 @@ pub data Event : Type 0 where
   pending : Assembly → Event
   closed : BlockSet → Assembly → Event
 
+-- the EBN of a set's last block, and of user data; the blocks before the last are numbered from 00h on, below F0h
+abbrev pub lastBlock : ℕ
+lastBlock = 255
+
+abbrev pub userBlock : ℕ
+userBlock = 254
+
+abbrev pub numberedBlocks : ℕ
+numberedBlocks = 240
+
 unfoldable pub noBlocks : Assembly
 noBlocks = record { least = 0; current = none }
 
@@ -39,7 +49,7 @@ unless r e = elim (isGood r) [ true ↦ e | false ↦ broken r ]
 -- a set with one block more: EBN FFh closes it
 unfoldable pub closeAtLast : BlockSet → ℕ → Event
 closeAtLast s least =
-    elim (eqb (s .last) 255) [
+    elim (eqb (s .last) lastBlock) [
       | true ↦ closed s (record { least = least; current = none })
       | false ↦ pending (record { least = least; current = some s })
     ]
@@ -47,12 +57,12 @@ closeAtLast s least =
 -- a block where no set is open, its header and its text: EBN 00h or FFh, then the rules 8 to 12
 unfoldable pub opening : Format → ℕ → Header → List ℕ → ℕ → Event
 opening f place h text least =
-    unless (firstBroken place ((7, eqb (h .ebn) 0 || eqb (h .ebn) 255) ∷ firstBlockRules f least h))
+    unless (firstBroken place ((7, eqb (h .ebn) 0 || eqb (h .ebn) lastBlock) ∷ firstBlockRules f least h))
     (closeAtLast (record { place = place; first = h; last = h .ebn; text = text }) (suc (h .sn)))
 
 -- the next EBN, at most EFh, or FFh
 unfoldable pub goesOn : ℕ → ℕ → Bool
-goesOn last ebn = eqb ebn 255 || (eqb ebn (suc last) && ltb ebn 240)
+goesOn last ebn = eqb ebn lastBlock || (eqb ebn (suc last) && ltb ebn numberedBlocks)
 
 -- all blocks of a set agree in SGN, SN and CF
 unfoldable pub agrees : Header → Header → Bool
@@ -64,9 +74,9 @@ continuing place h text s least =
     unless (firstBroken place ((7, goesOn (s .last) (h .ebn)) ∷ (7, agrees (s .first) h) ∷ []))
     (closeAtLast (record { place = s .place; first = s .first; last = h .ebn; text = s .text ++ text }) least)
 
--- EBN FEh is user data
+-- user data
 unfoldable pub isUser : Header → Bool
-isUser h = eqb (h .ebn) 254
+isUser h = eqb (h .ebn) userBlock
 
 -- one block; user data is passed over wherever it stands
 unfoldable pub advance : Format → ℕ → List ℕ → Assembly → Event

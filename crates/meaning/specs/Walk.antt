@@ -97,8 +97,11 @@ pub record Subtitle : Type 0 where
   pub double : Bool
   pub rows : List (List Cell)
 
+abbrev pub subtitleRows : ℕ → List Token → List (List Cell)
+subtitleRows mode ts = cellRows (newPen (isDouble ts)) (rows mode ts)
+
 unfoldable pub subtitleOf : ℕ → Header → List Token → Subtitle
-subtitleOf mode first ts = record { first = first; double = isDouble ts; rows = cellRows (newPen (isDouble ts)) (rows mode ts) }
+subtitleOf mode first ts = record { first = first; double = isDouble ts; rows = subtitleRows mode ts }
 
 -- what a closed set adds: a comment nothing
 unfoldable pub subtitlesFrom : Format → BlockSet → List Subtitle

@@ -4,16 +4,21 @@ ghost use mathlib.Core.Path.{_≡_};
 ghost use Rattle.meaning.specs.Refusals.{inTurn};
 ghost use Rattle.meaning.specs.Blocks.{isComment};
 ghost use Rattle.meaning.specs.Sets.{isUser};
-ghost use Rattle.meaning.specs.Looks.{pack, unpack, shared, free, blend};
+ghost use Rattle.meaning.specs.Looks.{pack, unpack, shared, free, blend, onBlack};
 ghost use Rattle.meaning.specs.Cells.{newPen};
 ghost use Rattle.meaning.specs.Rows.{isPaired, linesOf};
 
-// The bytes of the GSI block, of a TTI block after it, and of a TTI block's text.
+// The bytes of the GSI block, of a TTI block's header and text, and of a TTI block.
 pub const GSI_SIZE: usize = 1024;
 
-pub const BLOCK_SIZE: usize = 128;
+pub const HEADER_SIZE: usize = 16;
 
 pub const TEXT_SIZE: usize = 112;
+
+pub const BLOCK_SIZE: usize = HEADER_SIZE + TEXT_SIZE;
+
+// The most cells of a row.
+pub const ROW_LIMIT: usize = 64;
 
 // The rule that a file breaks, and the block where. Number 0 at place 0: no rule is broken.
 pub struct Refusal {
@@ -89,7 +94,7 @@ impl Header {
         self.cf == 1
     }
 
-    // User data is passed over.
+    // EBN FEh.
     pub fn is_user(self) -> bool
         ensures { λ r. ⌜ r ≡ isUser self ⌝ }
     {
@@ -160,31 +165,30 @@ impl Look {
     pub fn blend(self, source: Look) -> Look
         ensures { λ r. ⌜ r ≡ blend self source ⌝ }
     {
-        Look {
-            double: self.double,
-            background: self.background,
-            colour: source.colour,
-        }
+        let mut look = self;
+        look.colour = source.colour;
+        look
     }
 
-    // Parts of a packed look, for those who keep looks packed: what the cells of a span share; what a blank leaves open; the
-    // background.
-    pub fn packed_shared(n: u16) -> u16
-        ensures { λ r. ⌜ r ≡ shared (unpack n) ⌝ }
+    // What the cells of a span share, as one number.
+    pub fn shared(self) -> u16
+        ensures { λ r. ⌜ r ≡ shared self ⌝ }
     {
-        n / 64 % 2 + 2 * (n / 8 % 8)
+        let low = 2 * (self.background as u16);
+        if self.double { 1 + low } else { low }
     }
 
-    pub fn packed_free(n: u16) -> u16
-        ensures { λ r. ⌜ r ≡ free (unpack n) ⌝ }
+    // What a blank leaves open, as one number.
+    pub fn free(self) -> u16
+        ensures { λ r. ⌜ r ≡ free self ⌝ }
     {
-        n % 8
+        self.colour as u16
     }
 
-    pub fn packed_background(n: u16) -> u8
-        ensures { λ r. ⌜ r ≡ unpack n .background ⌝ }
+    pub fn on_black(self) -> bool
+        ensures { λ r. ⌜ r ≡ onBlack self ⌝ }
     {
-        (n / 8 % 8) as u8
+        self.background == Look::BLACK
     }
 
     pub fn unpack(n: u16) -> Look
@@ -220,9 +224,6 @@ pub struct Rows(pub u32);
 pub struct Lines(pub u64);
 
 impl Rows {
-    // The most cells of a row.
-    pub const LONGEST: usize = 64;
-
     // The lines that the rows cover: a double row covers two.
     pub fn lines(self, double: bool) -> Lines
         ensures { λ r. ⌜ r ≡ linesOf double self ⌝ }

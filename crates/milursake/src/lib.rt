@@ -30,7 +30,7 @@ fn put_answer(numbers: &mut [u64], a: Answer)
     put_number(numbers, 7, a.spans);
 }
 
-// For callers in C and Rust: the refusal's number, or 0; the whole answer is stored in `numbers`.
+// For callers in C and Rust: the refusal's number, or 0. As much of the answer as `numbers` has room for is stored there.
 #[no_mangle]
 pub extern "C" fn milursake_convert(
     file: &[u8],

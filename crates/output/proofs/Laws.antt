@@ -1,14 +1,13 @@
 -- The laws of writing into a lent buffer: writes one after the other are one write, and what it leaves there.
 -- Assumes nothing.
 use mathlib.Core.Path.{_≡_, refl, sym, ap, _∙_}
-use mathlib.Core.List.{List, [], _∷_, _++_, append-nil}
+use mathlib.Core.List.{List, [], _∷_, _++_, append-nil, flatMap}
 use Prim.Native.Nat.{ℕ, suc, _+_, _-_, _<_, _≤_, _^_, min}
 use native.Mathlib.Nat.{add-zero, add-suc, suc-add}
 use native.Mathlib.Decide.{decLe}
 use native.Mathlib.Omega.{arith}
 use lib.ListN.{length, set, take, drop, getD, length-append, length-set, drop-of-length-le}
 use lib.Seq.{set-out, length-sets, sets-eq, drop-cons}
-use Rattle.meaning.specs.Lists.{joinMap}
 use Rattle.meaning.proofs.ListLaws.{join-append}
 use Rattle.output.specs.Output.{stored, past, Wrote}
 
@@ -86,9 +85,9 @@ wrote-here {b1 = b1} {r = r} w = wrote-nothing b1 r (omega (arith, wrote-length 
 
 -- one item more: the step of every loop that writes item after item
 pub wrote-more :
-    {A : Type 0} (f : A → List ℕ) (xs : List A) (x : A) {buf b1 b2 : List ℕ} {at r1 r2 : ℕ} → Wrote buf at (joinMap f xs) b1 r1
-    → Wrote b1 r1 (f x) b2 r2 → Wrote buf at (joinMap f (xs ++ x ∷ [])) b2 r2
-unfolding joinMap
+    {A : Type 0} (f : A → List ℕ) (xs : List A) (x : A) {buf b1 b2 : List ℕ} {at r1 r2 : ℕ} → Wrote buf at (flatMap f xs) b1 r1
+    → Wrote b1 r1 (f x) b2 r2 → Wrote buf at (flatMap f (xs ++ x ∷ [])) b2 r2
+unfolding flatMap
 wrote-more f xs x w v = rw (join-append f xs (x ∷ []), append-nil (f x)) (w ⨟ v)
 
 -- where there is room, the bytes stand between what was before and what was after

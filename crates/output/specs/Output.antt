@@ -14,7 +14,8 @@ stored buf at xs = sets buf at xs
 unfoldable pub past : ℕ → ℕ → ℕ
 past at n = min (at + n) 18446744073709551615
 
--- xs was written at a position: what the buffer holds then, and the position after
+-- xs was written at a position: what the buffer holds then, and the position after. `room` holds of every buffer, and is here for
+-- those who add up positions.
 pub record Wrote (buf : List ℕ) (at : ℕ) (xs buf′ : List ℕ) (r : ℕ) : Type 0 where
   pub held : buf′ ≡ stored buf at xs
   pub next : r ≡ past at (length xs)

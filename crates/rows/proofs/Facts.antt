@@ -4,26 +4,26 @@ use Prim.Native.Nat.{ℕ, _+_, _≤_, _<_, min}
 use native.Mathlib.Omega.{arith}
 use mathlib.Core.Path.{_≡_, refl, sym, ap, _∙_}
 use mathlib.Core.Bool.{Bool, true, false, not, _&&_, _||_, and-assoc}
-use mathlib.Core.List.{List, [], _∷_}
+use mathlib.Core.List.{List, [], _∷_, tail}
 use lib.Dec.{leb, eqb}
 use lib.ListN.{length}
 use borrow.Author.Tests.{le-leb, lt-leb, leb-true, leb-false}
 use Rattle.meaning.specs.declared.Token.{Token}
 use Rattle.meaning.specs.declared.Format.{Format}
 use Rattle.meaning.specs.declared.Token.the-variants.{Character, Control, RowEnd, Unlisted}
-use Rattle.meaning.specs.Lists.{all, any, later, ontoFirst}
+use Rattle.meaning.specs.Lists.{all, any, ontoFirst}
 use Rattle.meaning.specs.Codes.{tokens, isListed, isRowEnd, isDoubleHeight}
-use Rattle.meaning.specs.Rows.{splitRows, isDouble, breaksPaired, pairedFrom, rows, evenFrom, heightsRight, linesOf, rowCount, rowsFit, textRule}
+use Rattle.meaning.specs.Rows.{splitRows, isDouble, breaksPaired, pairedFrom, rows, evenFrom, heightsRight, linesOf, rowCount, rowsFit, textRule, firstRow, rowsOf}
 use Rattle.meaning.proofs.Logic.{by-test}
 use Rattle.meaning.proofs.ListLaws.{all-cons, any-cons, test-nil}
 use Rattle.rows.specs.declared.RowFacts.{RowFacts}
 use Rattle.rows.specs.declared.RowScan.{RowScan}
 use Rattle.rows.specs.declared.TextFacts.{TextFacts}
 use Rattle.rows.specs.declared.TextScan.{TextScan}
-use Rattle.rows.specs.FirstRow.{firstRow, rowsOf, rowsAfter}
+use Rattle.rows.proofs.FirstRow.{rowsAfter}
 use Rattle.rows.specs.Scanning.{countLimit, factsOfRow, factsOfRows, ruleOf}
 use Rattle.rows.specs.Scanned.{Scanned, TextScanned}
-use Rattle.rows.proofs.Laws.{split-end, split-more, rows-first, double-first, rows-are}
+use Rattle.rows.proofs.Laws.{split-end, split-more, rows-first}
 
 -- a row end is listed, and a text is listed if its rows are
 end-listed : (t : Token) → isRowEnd t ≡ true → isListed t ≡ true
@@ -71,14 +71,13 @@ rows-listed false ts = split-listed ts
 -- a 0Dh in a later row, where none stands in the first
 later-height :
     (paired : Bool) (ts : List Token)
-    → (isDouble ts || not (any (any isDoubleHeight) (later (rowsOf paired ts)))) ≡ (isDouble ts || not (any (any isDoubleHeight) (rowsOf paired ts)))
-unfolding later
+    → (isDouble ts || not (any (any isDoubleHeight) (tail (rowsOf paired ts)))) ≡ (isDouble ts || not (any (any isDoubleHeight) (rowsOf paired ts)))
 later-height paired ts =
     by-test (isDouble ts)
     (λ e. rw e)
     (λ e.
     rw (e, rows-first paired ts)
-    (ap not (rw (sym (double-first ts) ∙ e) at (sym (any-cons (any isDoubleHeight) (firstRow ts) (rowsAfter paired ts))))))
+    (ap not (rw e at (sym (any-cons (any isDoubleHeight) (firstRow ts) (rowsAfter paired ts))))))
 
 -- the lines covered, with the rows counted up to a limit
 lines-capped : (end vp : ℕ) → end < countLimit → (double : Bool) (n : ℕ) → leb (vp + linesOf double (record { 0 = min n countLimit }) .0) end ≡ leb (vp + linesOf double (record { 0 = n }) .0) end
@@ -103,11 +102,11 @@ module _ (f : Format) (place vp : ℕ) (low : f .screen .end < countLimit) (ts :
   right-14 :
       (facts .ordered && (isDouble ts || not (facts .height)) && (not (breaksPaired (f .mode) ts) || evenFrom false ts)) ≡ heightsRight (f .mode) ts
   unfolding factsOfRows heightsRight
-  right-14 = rw (rows-are (f .mode) ts, later-height (breaksPaired (f .mode) ts) ts)
+  right-14 = rw (later-height (breaksPaired (f .mode) ts) ts)
 
   right-15 : (facts .short && leb (vp + linesOf (isDouble ts) (record { 0 = facts .rows }) .0) (f .screen .end)) ≡ rowsFit f vp ts
   unfolding factsOfRows rowsFit rowCount
-  right-15 = rw (rows-are (f .mode) ts, lines-capped (f .screen .end) vp low (isDouble ts) (length (rowsOf (breaksPaired (f .mode) ts) ts)))
+  right-15 = rw (lines-capped (f .screen .end) vp low (isDouble ts) (length (rowsOf (breaksPaired (f .mode) ts) ts)))
 
   rule-right : ruleOf facts (isDouble ts) (not (breaksPaired (f .mode) ts) || evenFrom false ts) f place vp ≡ textRule f place vp ts
   unfolding factsOfRows ruleOf textRule
@@ -115,7 +114,7 @@ module _ (f : Format) (place vp : ℕ) (low : f .screen .end < countLimit) (ts :
 
 pub double-scanned : {s : List ℕ} {first : RowScan} → Scanned s 0 first → first .facts .height ≡ isDouble (tokens s)
 unfolding factsOfRow
-double-scanned {s} k = ap (λ (f : RowFacts). f .height) (k .facts) ∙ sym (double-first (tokens s))
+double-scanned {s} k = ap (λ (f : RowFacts). f .height) (k .facts)
 
 -- what the two scans tell is the rule
 pub rule-scanned :

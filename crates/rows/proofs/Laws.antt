@@ -9,11 +9,12 @@ use Rattle.meaning.specs.declared.Rows.{Rows}
 use Rattle.meaning.specs.declared.Token.{Token}
 use Rattle.meaning.specs.declared.Token.the-variants.{Character}
 use Rattle.meaning.specs.Lists.{any, takeWhile, ontoFirst}
-use Rattle.meaning.specs.Codes.{isRowEnd, isDoubleHeight}
-use Rattle.meaning.specs.Rows.{splitRows, isDouble, breaksPaired, pairedFrom, rows, evenFrom, linesOf}
+use Rattle.meaning.specs.Codes.{isRowEnd}
+use Rattle.meaning.specs.Rows.{splitRows, inRow, firstRow, pairedFrom, rowsOf, evenFrom, linesOf}
 use Rattle.meaning.proofs.Logic.{by-test, false-not-true}
 use Rattle.meaning.proofs.ListLaws.{while-on, while-off}
-use Rattle.rows.specs.FirstRow.{inRow, firstRow, afterRow, isEnded, endFirst, withoutEnd, nextRows, rowsOf, rowsAfter}
+use Rattle.rows.specs.Scanned.{isEnded}
+use Rattle.rows.proofs.FirstRow.{afterRow, endFirst, withoutEnd, nextRows, rowsAfter}
 
 -- the clauses, by the test
 module _ (t : Token) (ts : List Token) where
@@ -130,15 +131,6 @@ rows-first paired (t ∷ ts) =
     (λ e.
     rw (rows-more paired t ts e, first-more t ts e, after-rows-more paired t ts e)
     (ap (ontoFirst t) (rows-first paired ts) ∙ unfold ontoFirst in refl))
-
-pub double-first : (ts : List Token) → isDouble ts ≡ any isDoubleHeight (firstRow ts)
-unfolding isDouble rowsOf
-double-first ts = rw (rows-first false ts)
-
--- the rows of a text in a break mode
-pub rows-are : (mode : ℕ) (ts : List Token) → rows mode ts ≡ rowsOf (breaksPaired mode ts) ts
-unfolding rows rowsOf
-rows-are mode ts = refl
 
 -- every maximal run of row ends is even: after the first row stands a pair of them, and so on
 even-second : (ts : List Token) → evenFrom true ts ≡ (endFirst ts && evenFrom false (withoutEnd ts))

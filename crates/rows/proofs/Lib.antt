@@ -1,3 +1,4 @@
+pub mod FirstRow
 pub mod Laws
 pub mod RowEnds
 pub mod RowLoop

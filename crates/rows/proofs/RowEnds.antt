@@ -16,8 +16,8 @@ use Rattle.charset.specs.Reading.{readingAt, tokenAt, nextAt, afterEndAt, after
 use Rattle.charset.proofs.Positions.{read-over, row-over}
 use Rattle.charset.proofs.Laws.{ReadOn, read-at, tokens-end}
 use Rattle.rows.specs.declared.NextRow.{NextRow}
-use Rattle.rows.specs.FirstRow.{afterRow, isEnded, endFirst, withoutEnd, nextRows}
-use Rattle.rows.specs.Scanned.{nextRowAt, nextRow}
+use Rattle.rows.proofs.FirstRow.{afterRow, endFirst, withoutEnd, nextRows}
+use Rattle.rows.specs.Scanned.{isEnded, nextRowAt, nextRow}
 use Rattle.rows.proofs.Laws.{after-none, after-end, after-more, ended-none, ended-more}
 
 -- a row by its first token

@@ -11,17 +11,16 @@ use Rattle.meaning.specs.declared.Token.{Token}
 use Rattle.meaning.specs.declared.Token.the-variants.{Character}
 use Rattle.meaning.specs.Codes.{isRowEnd, isDoubleHeight, tokens}
 use Rattle.meaning.specs.Lists.{any}
-use Rattle.meaning.specs.Rows.{isDouble}
+use Rattle.meaning.specs.Rows.{isDouble, firstRow}
 use Rattle.meaning.proofs.ListLaws.{any-cons}
 use Rattle.charset.specs.declared.Reading.{Reading}
 use Rattle.charset.specs.Reading.{afterRowAt}
 use Rattle.charset.proofs.Positions.{row-over}
 use Rattle.charset.proofs.Laws.{ReadOn, RunOn, tokens-end}
 use Rattle.rows.specs.declared.RowFacts.{RowFacts}
-use Rattle.rows.specs.FirstRow.{firstRow, isEnded}
 use Rattle.rows.specs.Scanning.{factsOfRow, withToken, withCharacters}
-use Rattle.rows.specs.Scanned.{Scanned}
-use Rattle.rows.proofs.Laws.{double-first, first-none, ended-none, first-end, ended-end, first-more, ended-more, first-run, ended-run}
+use Rattle.rows.specs.Scanned.{isEnded, Scanned}
+use Rattle.rows.proofs.Laws.{first-none, ended-none, first-end, ended-end, first-more, ended-more, first-run, ended-run}
 use Rattle.rows.proofs.Gathered.{with-token, with-characters}
 use Rattle.rows.proofs.RowEnds.{row-end, row-more}
 
@@ -92,7 +91,7 @@ pub record HeightLeft (s : List ℕ) (i : ℕ) : Type 0 where
   pub height : any isDoubleHeight (firstRow (tokens (drop i s))) ≡ isDouble (tokens s)
 
 pub height-start : (s : List ℕ) → HeightLeft s 0
-height-start s = record { height = sym (double-first (tokens s)) }
+height-start s = record { height = refl }
 
 run-height : (cs : List ℕ) (ts : List Token) → any isDoubleHeight (map Character cs ++ ts) ≡ any isDoubleHeight ts
 unfolding any isDoubleHeight

@@ -9,13 +9,13 @@ use lib.ListN.{length, drop}
 use lib.Seq.{append-snoc}
 use Rattle.meaning.specs.declared.Token.{Token}
 use Rattle.meaning.specs.Codes.{tokens}
-use Rattle.meaning.specs.Rows.{evenFrom}
+use Rattle.meaning.specs.Rows.{evenFrom, firstRow, rowsOf}
 use Rattle.rows.specs.declared.RowScan.{RowScan}
 use Rattle.rows.specs.declared.NextRow.{NextRow}
 use Rattle.rows.specs.declared.TextFacts.{TextFacts}
-use Rattle.rows.specs.FirstRow.{firstRow, afterRow, isEnded, nextRows, rowsOf, rowsAfter}
+use Rattle.rows.proofs.FirstRow.{afterRow, nextRows, rowsAfter}
 use Rattle.rows.specs.Scanning.{factsOfRows, withRow}
-use Rattle.rows.specs.Scanned.{Scanned, nextRow, TextScanned}
+use Rattle.rows.specs.Scanned.{isEnded, Scanned, nextRow, TextScanned}
 use Rattle.rows.proofs.Laws.{rows-first, rows-after, no-rows-after, even-ended, even-open}
 use Rattle.rows.proofs.Gathered.{with-row}
 use Rattle.rows.proofs.RowEnds.{rest-after, on-after, end-first, started, next-rows}

@@ -1,3 +1,2 @@
-pub mod FirstRow
 pub mod Scanning
 pub mod Scanned

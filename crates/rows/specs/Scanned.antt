@@ -5,14 +5,19 @@ use mathlib.Core.Path.{_≡_}
 use mathlib.Core.Bool.{Bool, false, cond, not, _||_}
 use mathlib.Core.List.{List}
 use lib.ListN.{drop}
+use Rattle.meaning.specs.declared.Token.{Token}
 use Rattle.meaning.specs.Codes.{tokens, isRowEnd}
-use Rattle.meaning.specs.Rows.{evenFrom}
+use Rattle.meaning.specs.Lists.{any}
+use Rattle.meaning.specs.Rows.{firstRow, rowsOf, evenFrom}
 use Rattle.charset.specs.Reading.{tokenAt, afterEndAt, afterRowAt}
 use Rattle.rows.specs.declared.RowScan.{RowScan}
 use Rattle.rows.specs.declared.NextRow.{NextRow}
 use Rattle.rows.specs.declared.TextScan.{TextScan}
-use Rattle.rows.specs.FirstRow.{firstRow, isEnded, rowsOf}
 use Rattle.rows.specs.Scanning.{factsOfRow, factsOfRows}
+
+-- there is a row end
+unfoldable pub isEnded : List Token → Bool
+isEnded ts = any isRowEnd ts
 
 -- the facts of the row, whether a row end follows it, and the position after that
 pub record Scanned (s : List ℕ) (start : ℕ) (r : RowScan) : Type 0 where

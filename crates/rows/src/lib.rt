@@ -8,6 +8,7 @@ ghost use Rattle.meaning.specs.Rows.{isDouble, textRule};
 ghost use Rattle.rows.specs.Scanning.{countLimit, factsOfRow, withToken, withCharacters, factsOfRows, withRow, ruleOf};
 ghost use Rattle.rows.specs.Scanned.{Scanned, nextRowAt, nextRow, TextScanned};
 use meaning::Format;
+use meaning::ROW_LIMIT;
 use meaning::Refusal;
 use meaning::Rows;
 use meaning::Token;
@@ -37,6 +38,8 @@ struct TextFacts {
     short: bool,
     rows: u32,
 }
+
+const DOUBLE_HEIGHT: u8 = 13;
 
 // Above every limit that a rule sets: no rule can tell counts beyond it apart.
 const COUNT_LIMIT: u32 = 256;
@@ -70,7 +73,7 @@ fn is_double_height(t: Token) -> bool
 {
     match t {
         Token::Character(_) => false,
-        Token::Control(c) => c == 13,
+        Token::Control(c) => c == DOUBLE_HEIGHT,
         Token::RowEnd => false,
         Token::Unlisted => false,
     }
@@ -100,7 +103,7 @@ impl RowFacts {
                 f
             }
             Token::Control(c) => {
-                if c == 13 {
+                if c == DOUBLE_HEIGHT {
                     f.height = true;
                     f.ordered = !self.character & self.ordered;
                 }
@@ -145,7 +148,7 @@ impl TextFacts {
             listed: f.listed & self.listed,
             height: f.height | self.height,
             ordered: f.ordered & self.ordered,
-            short: (f.cells as usize <= Rows::LONGEST) & self.short,
+            short: (f.cells as usize <= ROW_LIMIT) & self.short,
             rows: capped_sum(self.rows, 1),
         }
     }
@@ -216,7 +219,7 @@ pub fn row_after(text: &[u8], paired: bool, next: usize) -> usize
     row.start
 }
 
-// Whether a set's text is double height: whether 0Dh stands in its first row, mostly at the start.
+// Whether a set's text is double height: whether 0Dh stands in its first row.
 pub fn is_double(text: &[u8]) -> bool
     ensures { λ r. ⌜ r ≡ isDouble (tokens (now (text .entry))) ⌝ }
 {
@@ -274,7 +277,7 @@ fn rule_of(t: TextFacts, double: bool, even: bool, f: Format, place: u64, vp: u8
     rule.or(place, 15, t.short & (end <= screen.end as u64))
 }
 
-// The first of the rules 13, 14 and 15 that the text of a set breaks, which begins at a place.
+// The first of the rules 13, 14 and 15 that the text of a set breaks; the set begins at block `place`.
 pub fn text_rule(text: &[u8], f: Format, place: u64, vp: u8) -> Refusal
     ensures { λ r. ⌜ r ≡ textRule f place vp (tokens (now (text .entry))) ⌝ }
 {

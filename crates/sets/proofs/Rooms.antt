@@ -1,6 +1,6 @@
 -- A text buffer of the longest text's size has room for the next block of a file.
 -- Assumes nothing.
-use Prim.Native.Nat.{ℕ, _+_, _≤_}
+use Prim.Native.Nat.{ℕ, _+_, _*_, _≤_}
 use native.Mathlib.Omega.{arith}
 use mathlib.Core.Path.{_≡_, refl}
 use mathlib.Core.Bool.{true}
@@ -9,14 +9,18 @@ use mathlib.Core.Option.{some}
 use lib.ListN.{length, length-take}
 use borrow.Author.Tests.{le-leb}
 use Rattle.meaning.specs.Blocks.{textSize, headerOf, blockText}
-use Rattle.meaning.specs.Sets.{BlockSet, isUser}
+use Rattle.meaning.specs.Sets.{BlockSet, numberedBlocks, isUser}
 use Rattle.meaning.proofs.Logic.{by-test}
 use Rattle.meaning.proofs.Texts.{text-short}
 use Rattle.laws.proofs.Walk.{Short, Bounded}
 use Rattle.sets.specs.declared.Current.{Current}
 use Rattle.sets.specs.declared.Current.the-variants.{Between, Open}
 use Rattle.sets.specs.declared.Sets.{Sets}
-use Rattle.sets.specs.Assembling.{textRoom, setOf, setWith, currentOf, assemblyOf, textEnd, hasRoom}
+use Rattle.sets.specs.Assembling.{setOf, setWith, currentOf, assemblyOf, textEnd, hasRoom}
+
+-- the longest text: that of the numbered blocks and the last
+abbrev pub textRoom : ℕ
+textRoom = (numberedBlocks + 1) * textSize
 
 -- a set that is short leaves room for the text of another block
 end-low : (c : Current) (text : List ℕ) → length text ≡ textRoom → ((s : BlockSet) → currentOf c text ≡ some s → Short s) → textEnd c + textSize ≤ textRoom

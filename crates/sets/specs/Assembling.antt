@@ -1,13 +1,13 @@
 -- What the state of the assembly stands for, with the text buffer, and the step that a block makes.
 -- Assumes nothing.
-use Prim.Native.Nat.{ℕ, _+_, _*_}
+use Prim.Native.Nat.{ℕ, _+_}
 use mathlib.Core.Bool.{Bool, cond, not, _&&_, _||_}
 use mathlib.Core.List.{List}
 use mathlib.Core.Option.{Option, none, some}
 use lib.Dec.{leb}
 use lib.ListN.{length, take}
 use Rattle.meaning.specs.declared.Format.{Format}
-use Rattle.meaning.specs.Blocks.{textSize, headerOf, blockText}
+use Rattle.meaning.specs.Blocks.{headerOf, blockText}
 use Rattle.meaning.specs.Sets.{BlockSet, Assembly, Event, isUser, advance}
 use Rattle.meaning.specs.Sets.Event.{broken, pending, closed}
 use Rattle.output.specs.Output.{stored}
@@ -17,10 +17,6 @@ use Rattle.sets.specs.declared.Current.the-variants.{Between, Open}
 use Rattle.sets.specs.declared.Sets.{Sets}
 use Rattle.sets.specs.declared.Step.{Step}
 use Rattle.sets.specs.declared.Step.the-variants.{NoRoom, Broken, Pending, Closed}
-
--- the longest text: that of 241 blocks
-abbrev pub textRoom : ℕ
-textRoom = 241 * textSize
 
 -- a set with its text
 unfoldable pub setWith : Set → List ℕ → BlockSet

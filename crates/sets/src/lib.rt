@@ -32,9 +32,14 @@ pub struct Sets {
     pub current: Current,
 }
 
+// The EBN of a set's last block; the blocks before it are numbered below 240.
+const LAST: u8 = 255;
+
+const NUMBERED: usize = 240;
+
 impl Sets {
-    // The longest text: that of 241 blocks.
-    pub const ROOM: usize = 241 * TEXT_SIZE;
+    // The longest text: that of 240 numbered blocks and the last.
+    pub const ROOM: usize = (NUMBERED + 1) * TEXT_SIZE;
 
     // Before the first block.
     pub const NONE: Sets = Sets {
@@ -65,7 +70,7 @@ pub enum Step {
 fn close_at_last(set: Set, least: u32) -> Step
     ensures { λ r. ⌜ ((text : List ℕ) → r ≡ stepOf (set .size) (closeAtLast (setWith set text) least)) ⌝ }
 {
-    if set.last == 255 {
+    if set.last == LAST {
         let sets = Sets {
             least,
             current: Current::Between,
@@ -84,7 +89,7 @@ fn opening(f: Format, place: u64, h: Header, size: usize, least: u32) -> Step
     ensures { λ r. ⌜ ((text : List ℕ) → r ≡ stepOf size (opening f place h text least)) ⌝ }
 {
     let ebn = h.ebn;
-    if !((ebn == 0) | (ebn == 255)) {
+    if !((ebn == 0) | (ebn == LAST)) {
         return Step::Broken(Refusal { number: 7, place });
     }
     let rule = stl::first_block_rule(f, place, least, h);
@@ -103,7 +108,7 @@ fn opening(f: Format, place: u64, h: Header, size: usize, least: u32) -> Step
 fn goes_on(last: u8, ebn: u8) -> bool
     ensures { λ r. ⌜ r ≡ goesOn last ebn ⌝ }
 {
-    (ebn == 255) | ((ebn as u32 == last as u32 + 1) & (ebn < 240))
+    (ebn == LAST) | ((ebn as u32 == last as u32 + 1) & ((ebn as usize) < NUMBERED))
 }
 
 fn agrees(first: Header, h: Header) -> bool

@@ -3,10 +3,9 @@
 use Prim.Native.Nat.{ℕ, zero, suc, _+_, _-_, _≤_, _<_}
 use native.Mathlib.Omega.{arith}
 use mathlib.Core.Path.{_≡_, refl, ap, _∙_}
-use mathlib.Core.List.{List, [], _∷_, _++_, map, append-assoc, append-nil}
+use mathlib.Core.List.{List, [], _∷_, _++_, map, append-assoc, append-nil, flatMap}
 use lib.ListN.{length, getD, take, drop}
 use lib.Seq.{drop-cons}
-use Rattle.meaning.specs.Lists.{joinMap}
 use Rattle.meaning.specs.Cells.{Cell, points}
 use Rattle.meaning.specs.Spans.{uniform, spansFrom, spans}
 use Rattle.meaning.specs.Conversion.{spanOf, rowSpans}
@@ -20,8 +19,8 @@ use Rattle.spans.proofs.Trimming.{shown-range}
 
 -- the code points of cells in the arrays
 pub to-characters : (characters looks : List ℕ) (i n : ℕ) → i + n ≤ length characters
-    → joinMap points (cellsAt characters looks i n) ≡ take n (drop i characters)
-unfolding cellsAt packedCell points joinMap
+    → flatMap points (cellsAt characters looks i n) ≡ take n (drop i characters)
+unfolding cellsAt packedCell points flatMap
 to-characters characters looks i zero h = refl
 to-characters characters looks i (suc n) h =
     let here : i < length characters = omega arith in

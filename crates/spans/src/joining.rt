@@ -15,13 +15,14 @@ pub(crate) struct Foreground {
     pub look: u16,
 }
 
+// The look makes no difference.
 pub(crate) fn is_blank(character: u16, look: u16) -> bool
     ensures { λ r. ⌜ r ≡ isBlank (packedCell character look) ⌝ }
 {
     character == BLANK
 }
 
-// Blanks only count as white on black.
+// Blanks only count as white: what the look leaves open, and no more, is asked of it.
 pub(crate) fn no_foreground() -> Foreground
     ensures { λ r. ⌜ r ≡ noForeground ⌝ }
 {
@@ -35,9 +36,11 @@ pub(crate) fn no_foreground() -> Foreground
 pub(crate) fn is_joining(first: u16, fore: Foreground, character: u16, look: u16) -> bool
     ensures { λ r. ⌜ r ≡ joins (unpack first) fore (packedCell character look) ⌝ }
 {
-    (Look::packed_shared(look) == Look::packed_shared(first))
-        & (is_blank(character, look)
-            | (fore.blanks | (Look::packed_free(look) == Look::packed_free(fore.look))))
+    let l = Look::unpack(look);
+    let first_look = Look::unpack(first);
+    let fore_look = Look::unpack(fore.look);
+    (l.shared() == first_look.shared())
+        & (is_blank(character, look) | (fore.blanks | (l.free() == fore_look.free())))
 }
 
 // The foreground with one more cell.

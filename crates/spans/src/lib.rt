@@ -26,7 +26,7 @@ pub struct SpanRead {
 fn is_blank_on_black(character: u16, look: u16) -> bool
     ensures { λ r. ⌜ r ≡ isBlankOnBlack (packedCell character look) ⌝ }
 {
-    joining::is_blank(character, look) & (Look::packed_background(look) == Look::BLACK)
+    joining::is_blank(character, look) & Look::unpack(look).on_black()
 }
 
 // The first of n cells that is no blank on black, or n.

@@ -1,16 +1,17 @@
--- Two lists compared byte by byte.
+-- Two lists compared byte by byte, and DFC with the two that there are.
 -- Assumes nothing.
 use Prim.Native.Nat.{ℕ, suc, _+_, _<_, _≤_}
-use native.Mathlib.Decide.{ℕ-discrete}
 use native.Mathlib.Numerals.{add-one}
-use mathlib.Core.Bool.{true, false}
+use mathlib.Core.Bool.{true, false, not}
 use mathlib.Core.List.{List, [], _∷_}
 use mathlib.Core.Path.{_≡_, refl, sym, ap, _∙_}
+use lib.Dec.{eqb}
 use lib.ListN.{length, drop, getD, drop-of-length-le}
 use lib.Seq.{drop-cons}
 use borrow.Author.Tests.{eq-eqb, ne-eqb}
-use Rattle.meaning.specs.Gsi.{rateOf}
+use Rattle.meaning.specs.Gsi.{rateOf, isRate}
 use Rattle.meaning.specs.Lists.{same, bytes, field}
+use Rattle.meaning.proofs.Logic.{by-test}
 
 module _ (x y : ℕ) (xs ys : List ℕ) where
   same-here : x ≡ y → same (x ∷ xs) (y ∷ ys) ≡ same xs ys
@@ -27,11 +28,7 @@ unfolding same
 same-apart [] [] h = absurd (h refl)
 same-apart [] (y ∷ ys) h = refl
 same-apart (x ∷ xs) [] h = refl
-same-apart (x ∷ xs) (y ∷ ys) h = first (ℕ-discrete x y) (same-apart xs ys (λ e. h (ap suc e)))
-  where
-    first : Dec (x ≡ y) → same xs ys ≡ false → same (x ∷ xs) (y ∷ ys) ≡ false
-    first (yes e) k = same-here x y xs ys e ∙ k
-    first (no e) k = same-not-here x y xs ys e
+same-apart (x ∷ xs) (y ∷ ys) h = by-test (eqb x y) (λ e. rw (e, same) (same-apart xs ys (λ z. h (ap suc z)))) (λ e. rw (e, same))
 
 -- two lists from an index on
 module _ (a b : List ℕ) (i : ℕ) where
@@ -58,3 +55,15 @@ module _ (file dfc : List ℕ) (e : dfc ≡ field 3 8 file) where
   pub rate-none : same dfc (bytes "STL25.01") ≡ false → same dfc (bytes "STL30.01") ≡ false → rateOf file ≡ 0
   unfolding rateOf
   rate-none a b = rw (sym e, a, sym e, b, rateOf)
+
+-- a rate that is not 0 is one of the two
+pub rate-known : {n : ℕ} (file : List ℕ) → n ≡ rateOf file → not (eqb n 0) ≡ isRate (rateOf file)
+unfolding isRate
+rate-known file e =
+    rw e
+    (by-test (same (field 3 8 file) (bytes "STL25.01"))
+    (λ a. rw (rate-25 file _ refl a))
+    (λ a.
+    by-test (same (field 3 8 file) (bytes "STL30.01"))
+    (λ b. rw (rate-30 file _ refl a b))
+    (λ b. rw (rate-none file _ refl a b))))

@@ -93,7 +93,7 @@ fn is_digit(c: u8) -> bool
     (48 <= c) & (c <= 57)
 }
 
-// Whether bytes are decimal digits, all of them, and write a number.
+// Whether bytes are decimal digits, all of them, and write the number n.
 fn writes(digits: &[u8], n: usize) -> bool
     requires { ⌜ length (now digits) ≤ 5 ⌝ }
     ensures { λ r. ⌜ r ≡ (all isDigit (now (digits .entry)) && eqb (valueFrom 0 (now (digits .entry))) n) ⌝ }
@@ -117,7 +117,7 @@ pub fn file_rule(file: &[u8], mode: u64) -> Refusal
 {
     let rule = Refusal::NONE.or(0, 1, is_either(mode, 1, 2));
     let rule = rule.or(0, 2, is_whole(file.len()));
-    let rule = rule.or(0, 3, is_either(rate(file) as u64, 25, 30));
+    let rule = rule.or(0, 3, rate(file) != 0);
     let rule = rule.or(0, 4, is_either(byte(file, 11) as u64, 49, 50));
     let rule = rule.or(0, 5, same(field(file, 12, 2), b"00"));
     rule.or(0, 6, writes(field(file, 238, 5), block_count(file)))

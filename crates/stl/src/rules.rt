@@ -2,7 +2,7 @@
 
 ghost use mathlib.Core.Path.{_≡_};
 ghost use Rattle.meaning.specs.Refusals.{firstBroken};
-ghost use Rattle.meaning.specs.Blocks.{timeInRange, inFrames, timesRight, isPlaced, firstBlockRules};
+ghost use Rattle.meaning.specs.Blocks.{timeInRange, inFrames, timesRight, onScreen, firstBlockRules};
 use meaning::Format;
 use meaning::Header;
 use meaning::Refusal;
@@ -28,10 +28,10 @@ fn times_right(start: Time, stop: Time, rate: u8) -> bool
     in_range(start, rate) & in_range(stop, rate) & (in_frames(start, rate) < in_frames(stop, rate))
 }
 
-fn is_placed(s: Screen, vp: u8, jc: u8) -> bool
-    ensures { λ r. ⌜ r ≡ isPlaced s vp jc ⌝ }
+fn on_screen(s: Screen, vp: u8) -> bool
+    ensures { λ r. ⌜ r ≡ onScreen s vp ⌝ }
 {
-    (s.first <= vp) & (vp < s.end) & (jc <= 3)
+    (s.first <= vp) & (vp < s.end)
 }
 
 // The first of the rules that the block at a place breaks. A comment is tested for 8 and 9 only.
@@ -45,5 +45,6 @@ pub fn first_block_rule(f: Format, place: u64, least: u32, h: Header) -> Refusal
     }
     let rule = rule.or(place, 10, h.cs == 0);
     let rule = rule.or(place, 11, times_right(h.tci, h.tco, f.rate));
-    rule.or(place, 12, is_placed(f.screen, h.vp, h.jc))
+    let rule = rule.or(place, 12, on_screen(f.screen, h.vp));
+    rule.or(place, 12, h.jc <= 3)
 }

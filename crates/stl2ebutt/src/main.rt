@@ -1,5 +1,8 @@
 // The converting program of document 01: a digit for the break mode and then the file on standard input; the document or one line on standard output.
 
+// The most bytes of a file and of a document.
+const LIMIT: usize = 65536;
+
 fn mode_of(digit: u8) -> u64 {
     if digit == b'1' {
         1
@@ -21,11 +24,11 @@ fn say_refused(number: u64, place: u64) {
 fn main() {
     let mut digit = [0u8; 1];
     // One byte more than a file may have, to see that it is longer.
-    let mut file = [0u8; 65537];
-    let mut out = [0u8; 65536];
+    let mut file = [0u8; LIMIT + 1];
+    let mut out = [0u8; LIMIT];
     io::read_full(libc::STDIN_FILENO, &mut digit);
     let n = io::read_full(libc::STDIN_FILENO, &mut file);
-    if n > 65536 {
+    if n > LIMIT {
         io::write_all(libc::STDOUT_FILENO, b"too long\n");
         return;
     }

@@ -2,13 +2,13 @@
 -- Assumes nothing.
 use mathlib.Core.Path.{_≡_, refl, ap}
 use mathlib.Core.Bool.{Bool, true, false, cond}
-use mathlib.Core.List.{List, [], _∷_, _++_}
+use mathlib.Core.List.{List, [], _∷_, _++_, flatMap}
 use Prim.Native.Nat.{ℕ, zero, suc, _+_, _<_, _≤_}
 use native.Mathlib.Nat.{add-zero}
 use native.Mathlib.Numerals.{add-one}
 use native.Mathlib.Omega.{arith}
 use lib.ListN.{getD}
-use Rattle.meaning.specs.Lists.{keep, upFrom, joinMap}
+use Rattle.meaning.specs.Lists.{keep, upFrom}
 use Rattle.meaning.specs.Looks.{lookCount}
 use Rattle.meaning.specs.Document.{Paragraph, writeStyle, isUsed, looksUsed}
 use Rattle.output.specs.Output.{Wrote}
@@ -23,8 +23,8 @@ keep-first p k ks = at-head (p k) refl
     at-head true e = rw (e, keep)
     at-head false e = rw (e, keep)
 
-join-first : (f : ℕ → List ℕ) (b : Bool) (k : ℕ) (ks : List ℕ) → joinMap f (cond b (k ∷ ks) ks) ≡ cond b (f k) [] ++ joinMap f ks
-unfolding joinMap
+join-first : (f : ℕ → List ℕ) (b : Bool) (k : ℕ) (ks : List ℕ) → flatMap f (cond b (k ∷ ks) ks) ≡ cond b (f k) [] ++ flatMap f ks
+unfolding flatMap
 join-first f true k ks = refl
 join-first f false k ks = refl
 
@@ -33,7 +33,7 @@ unfoldable pub lineIf : List Bool → ℕ → List ℕ
 lineIf on look = cond (getD on look false) (writeStyle look) []
 
 unfoldable pub linesTo : List Bool → ℕ → List ℕ
-linesTo on n = joinMap (lineIf on) (upFrom n 0)
+linesTo on n = flatMap (lineIf on) (upFrom n 0)
 
 up-more : (n k : ℕ) → upFrom (suc n) k ≡ upFrom n k ++ (k + n) ∷ []
 unfolding upFrom
@@ -51,12 +51,12 @@ lines-more on n w v =
     let z : 0 + n ≡ n = omega arith in
     rw (add-one, up-more n 0, z) (wrote-more (lineIf on) (upFrom n 0) n w v)
 
-lines-marked : (on : List Bool) (ks : List ℕ) → joinMap writeStyle (keep (isOn on) ks) ≡ joinMap (lineIf on) ks
-unfolding joinMap keep isOn lineIf
+lines-marked : (on : List Bool) (ks : List ℕ) → flatMap writeStyle (keep (isOn on) ks) ≡ flatMap (lineIf on) ks
+unfolding flatMap keep isOn lineIf
 lines-marked on [] = refl
 lines-marked on (k ∷ ks) = rw (keep-first (isOn on) k ks, join-first, lines-marked on ks)
 
-pub lines-all : (on : List Bool) → joinMap writeStyle (looksMarked on) ≡ linesTo on lookCount
+pub lines-all : (on : List Bool) → flatMap writeStyle (looksMarked on) ≡ linesTo on lookCount
 unfolding linesTo looksMarked
 lines-all on = lines-marked on (upFrom lookCount 0)
 

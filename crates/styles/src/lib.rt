@@ -3,9 +3,8 @@
 use meaning::Look;
 ghost use mathlib.Core.Path.{_≡_};
 ghost use mathlib.Core.Bool.{true, cond};
-ghost use mathlib.Core.List.{[]};
+ghost use mathlib.Core.List.{[], flatMap};
 ghost use lib.ListN.{set};
-ghost use Rattle.meaning.specs.Lists.{joinMap};
 ghost use Rattle.meaning.specs.Document.{styleName, channel, colourName, writeStyle};
 ghost use Rattle.output.specs.Output.{Wrote};
 ghost use Rattle.styles.specs.Styles.{looksMarked};
@@ -15,7 +14,7 @@ pub struct Marks {
     pub on: [bool; Look::COUNT],
 }
 
-// A number that no look has marks nothing.
+// A number past the end of the marks marks nothing.
 pub fn mark(on: &mut [bool], look: u16)
     ensures { λ _. ⌜ now (on .exit) ≡ set (now (on .entry)) look true ⌝ }
 {
@@ -84,7 +83,7 @@ fn put_style_if(out: &mut [u8], at: usize, on: bool, look: u16) -> usize
 
 // The lines of the marked looks, each once, ascending.
 pub fn put_styles(out: &mut [u8], at: usize, marks: Marks) -> usize
-    ensures { λ r. ⌜ Wrote (now (out .entry)) at (joinMap writeStyle (looksMarked (marks .on))) (now (out .exit)) r ⌝ }
+    ensures { λ r. ⌜ Wrote (now (out .entry)) at (flatMap writeStyle (looksMarked (marks .on))) (now (out .exit)) r ⌝ }
 {
     let mut p = at;
     let mut look = 0;

@@ -1,10 +1,10 @@
 -- Rows and filler lines together are the content of a text; a text within the rules is not cut.
 -- Assumes nothing.
-use Prim.Native.Nat.{ℕ, suc, _<_, min}
+use Prim.Native.Nat.{ℕ, suc, _-_, _≤_, _<_, min}
 use native.Mathlib.Omega.{arith}
 use mathlib.Core.Path.{_≡_, refl, ap, _∙_}
 use mathlib.Core.Bool.{Bool, true, false, _&&_}
-use mathlib.Core.List.{List, [], _∷_, map}
+use mathlib.Core.List.{List, [], _∷_, map, flatMap}
 use lib.Dec.{eqb}
 use lib.ListN.{length, replicate, length-map}
 use lib.Seq.{take-all}
@@ -12,10 +12,10 @@ use borrow.Author.Tests.{leb-true}
 use Rattle.meaning.specs.declared.Format.{Format}
 use Rattle.meaning.specs.declared.Lines.{Lines}
 use Rattle.meaning.specs.declared.Token.{Token}
-use Rattle.meaning.specs.Lists.{all, keep, joinMap}
+use Rattle.meaning.specs.Lists.{all, keep}
 use Rattle.meaning.specs.Refusals.{isGood}
 use Rattle.meaning.specs.Codes.{tokens, takesCell}
-use Rattle.meaning.specs.Rows.{isDouble, breaksPaired, rows, linesOf, rowCount, rowLimit, isShort, rowsFit, textRule}
+use Rattle.meaning.specs.Rows.{isDouble, breaksPaired, rows, linesOf, rowCount, rowLimit, isShort, rowsFit, textRule, rowsOf}
 use Rattle.meaning.specs.declared.Pen.{Pen}
 use Rattle.meaning.specs.Cells.{Cell, newPen, rowStart, cellsOfRow, penAfterRow, cellRows}
 use Rattle.meaning.specs.Document.{writePiece}
@@ -26,13 +26,16 @@ use Rattle.meaning.proofs.Logic.{and-parts}
 use Rattle.meaning.proofs.ListLaws.{test-split}
 use Rattle.meaning.proofs.RefusalLaws.{unbroken}
 use Rattle.output.specs.Output.{Wrote}
-use Rattle.rows.specs.FirstRow.{rowsOf}
 use Rattle.rows.specs.Scanning.{countLimit}
-use Rattle.rows.proofs.Laws.{rows-are}
 use Rattle.text.specs.declared.Tally.{Tally}
 use Rattle.text.specs.declared.RowsLaid.{RowsLaid}
 use Rattle.text.specs.Laid.{cutRow, contentOf, PiecesLaid, RowsDone}
 use Rattle.text.proofs.Laws.{then-breaks}
+
+-- no lines are left
+pub no-fillers : (end vp : ℕ) (covered : Lines) → end - vp ≤ covered .0 → record { 0 = 0 } ≡ fillers end vp covered
+unfolding fillers
+no-fillers end vp covered h = let z : 0 ≡ end - vp - covered .0 = omega arith in ap (λ (n : ℕ). record { 0 = n }) z
 
 -- rows beyond the limit leave no filler line
 fillers-capped : (end vp : ℕ) → end < countLimit → (double : Bool) (n : ℕ) → fillers end vp (linesOf double (record { 0 = min n countLimit })) .0 ≡ fillers end vp (linesOf double (record { 0 = n })) .0
@@ -46,18 +49,18 @@ rows-length p [] = refl
 rows-length p (r ∷ rs) = ap suc (rows-length (penAfterRow p r) rs)
 
 pub content-laid :
-    {text : List ℕ} (f : Format) (vp : ℕ) {double : Bool} {buf b1 b2 : List ℕ} {on on′ : List Bool} {t : Tally} {l : RowsLaid} {lines : Lines} {n q : ℕ}
+    {text : List ℕ} (f : Format) (vp : ℕ) {double : Bool} {buf b1 b2 : List ℕ} {on on′ : List Bool} {t : Tally} {l : RowsLaid} {lines fill : Lines} {q : ℕ}
     {pen : Pen} → f .screen .end < countLimit → double ≡ isDouble (tokens text) → pen ≡ newPen double → RowsDone text pen (eqb (f .mode) 2 && double) buf on t b1 on′ l
-    → lines ≡ linesOf double (record { 0 = l .rows }) → n ≡ fillers (f .screen .end) vp lines .0 → Wrote b1 (l .tally .at) (joinMap writePiece (replicate n br)) b2 q
+    → lines ≡ linesOf double (record { 0 = l .rows }) → fill ≡ fillers (f .screen .end) vp lines → Wrote b1 (l .tally .at) (flatMap writePiece (replicate (fill .0) br)) b2 q
     → PiecesLaid buf on t (contentOf f vp text) b2 on′ (record { at = q; spans = l .tally .spans })
 unfolding contentOf pieces rowCount breaksPaired
-content-laid {text} f vp {double} {l = l} {n = n} short e h d g k p =
+content-laid {text} f vp {double} {l = l} {fill = fill} short e h d g k p =
     let ts = tokens text in
     let rs = rowsOf (eqb (f .mode) 2 && double) ts in
     let cs = cellRows (newPen double) rs in
-    let m : n ≡ fillers (f .screen .end) vp (linesOf double (record { 0 = length (map cutRow cs) })) .0 =
-    k ∙ rw (g, d .rows, length-map cs cutRow, rows-length (newPen double) rs) (fillers-capped (f .screen .end) vp short double (length rs)) in
-    rw (rows-are (f .mode) ts, ← e, ← m) (then-breaks (rowPieces (map cutRow cs)) n (rw h at (d .laid)) p)
+    let m : fill .0 ≡ fillers (f .screen .end) vp (linesOf double (record { 0 = length (map cutRow cs) })) .0 =
+    ap (λ (x : Lines). x .0) k ∙ rw (g, d .rows, length-map cs cutRow, rows-length (newPen double) rs) (fillers-capped (f .screen .end) vp short double (length rs)) in
+    rw (← e, ← m) (then-breaks (rowPieces (map cutRow cs)) (fill .0) (rw h at (d .laid)) p)
 
 uncut : (p : Pen) (r : List Token) → isShort r ≡ true → cutRow (cellsOfRow p r) ≡ cellsOfRow p r
 unfolding cutRow isShort

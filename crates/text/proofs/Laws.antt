@@ -4,9 +4,8 @@ use Prim.Native.Nat.{ℕ, zero, suc, _<_, _^_}
 use native.Mathlib.Omega.{arith}
 use mathlib.Core.Path.{_≡_, refl, sym, ap, _∙_}
 use mathlib.Core.Bool.{Bool, true}
-use mathlib.Core.List.{List, [], _∷_, _++_, append-nil}
+use mathlib.Core.List.{List, [], _∷_, _++_, append-nil, flatMap}
 use lib.ListN.{length, set, replicate, length-append, length-set}
-use Rattle.meaning.specs.Lists.{joinMap}
 use Rattle.meaning.specs.Document.{Piece, writePiece, looksOf}
 use Rattle.meaning.specs.Document.Piece.{br}
 use Rattle.meaning.proofs.ListLaws.{join-append}
@@ -84,7 +83,7 @@ no-looks ps n = looks-append ps (replicate n br) ∙ ap (λ (ls : List ℕ). loo
 
 pub then-breaks :
     {buf b1 b2 : List ℕ} {on on′ : List Bool} {t r : Tally} {p : ℕ} (ps : List Piece) (n : ℕ) → PiecesLaid buf on t ps b1 on′ r
-    → Wrote b1 (r .at) (joinMap writePiece (replicate n br)) b2 p
+    → Wrote b1 (r .at) (flatMap writePiece (replicate n br)) b2 p
     → PiecesLaid buf on t (ps ++ replicate n br) b2 on′ (record { at = p; spans = r .spans })
 then-breaks ps n l w = rw (join-append writePiece ps (replicate n br), no-looks ps n) (then-wrote l w)
 
@@ -103,5 +102,5 @@ left-less ps rest l p = record { here = laid-here p; onward = λ q. l .onward (p
 
 pub left-none :
     {buf out : List ℕ} {on marks : List Bool} {t s : Tally} {whole : List Piece} → LaidLeft buf on t whole out marks s [] → PiecesLaid buf on t whole out marks s
-unfolding joinMap looksOf
+unfolding flatMap looksOf
 left-none l = l .onward (l .here)

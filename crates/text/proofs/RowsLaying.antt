@@ -4,20 +4,20 @@ use Prim.Native.Nat.{ℕ, suc, _+_, _≤_, min}
 use native.Mathlib.Omega.{arith}
 use mathlib.Core.Path.{_≡_, sym, ap, _∙_}
 use mathlib.Core.Bool.{Bool, true, false}
-use mathlib.Core.List.{List, _∷_, map}
+use mathlib.Core.List.{List, _∷_, map, flatMap}
 use lib.ListN.{length, drop}
 use Rattle.meaning.specs.declared.Token.{Token}
 use Rattle.meaning.specs.Codes.{tokens}
 use Rattle.meaning.specs.declared.Pen.{Pen}
 use Rattle.meaning.specs.Cells.{cellsOfRow, penAfterRow, cellRows}
-use Rattle.meaning.specs.Lists.{joinMap}
 use Rattle.meaning.specs.Document.{Piece, writePiece, looksOf}
 use Rattle.meaning.specs.Document.Piece.{span, br}
 use Rattle.meaning.specs.Conversion.{rowSpans, laterRows, rowPieces}
 use Rattle.output.specs.Output.{Wrote}
-use Rattle.rows.specs.FirstRow.{firstRow, afterRow, isEnded, rowsOf, rowsAfter}
+use Rattle.meaning.specs.Rows.{firstRow, rowsOf}
+use Rattle.rows.proofs.FirstRow.{afterRow, rowsAfter}
 use Rattle.rows.specs.Scanning.{countLimit}
-use Rattle.rows.specs.Scanned.{nextRowAt}
+use Rattle.rows.specs.Scanned.{isEnded, nextRowAt}
 use Rattle.rows.proofs.Laws.{rows-first, rows-after, no-rows-after}
 use Rattle.rows.proofs.RowEnds.{rest-after, next-rows}
 use Rattle.text.specs.declared.Tally.{Tally}
@@ -72,7 +72,7 @@ module _ (text : List ℕ) (paired : Bool) where
         left =
             rw (d .after)
             (left-less (br ∷ map span (rowSpans (cutRow (cellsOfRow pen (firstRow us))))) (after (penAfterRow pen (firstRow us)) us)
-            (rw o at (l .left)) (unfold joinMap looksOf in wrote-then b (d .laid)));
+            (rw o at (l .left)) (unfold flatMap looksOf in wrote-then b (d .laid)));
         count = rw k (omega (arith, l .count, c));
         few = omega arith;
       }

@@ -3,20 +3,20 @@
 use Prim.Native.Nat.{ℕ, min}
 use mathlib.Core.Path.{_≡_}
 use mathlib.Core.Bool.{Bool, true}
-use mathlib.Core.List.{List, [], _∷_, map}
+use mathlib.Core.List.{List, [], _∷_, map, flatMap}
 use lib.ListN.{length, set, take, drop}
 use Rattle.meaning.specs.declared.Format.{Format}
 use Rattle.meaning.specs.declared.Pen.{Pen}
-use Rattle.meaning.specs.Lists.{joinMap}
 use Rattle.meaning.specs.Codes.{tokens}
-use Rattle.meaning.specs.Rows.{isDouble, rows, rowLimit}
-use Rattle.meaning.specs.Cells.{Cell, newPen, cellsOfRow, penAfterRow, cellRows}
+use Rattle.meaning.specs.Rows.{firstRow, isDouble, rowsOf, rowLimit}
+use Rattle.meaning.specs.Cells.{Cell, cellsOfRow, penAfterRow, cellRows}
+use Rattle.meaning.specs.Walk.{subtitleRows}
 use Rattle.meaning.specs.Document.{Piece, writePiece, looksOf}
 use Rattle.meaning.specs.Document.Piece.{span}
 use Rattle.meaning.specs.Conversion.{rowSpans, rowPieces, pieces}
 use Rattle.output.specs.Output.{past, Wrote}
 use Rattle.charset.specs.Reading.{afterRowAt}
-use Rattle.rows.specs.FirstRow.{firstRow, isEnded, rowsOf}
+use Rattle.rows.specs.Scanned.{isEnded}
 use Rattle.rows.specs.Scanning.{countLimit}
 use Rattle.text.specs.declared.Tally.{Tally}
 use Rattle.text.specs.declared.RowLaid.{RowLaid}
@@ -35,7 +35,7 @@ pub record Laid (buf : List ℕ) (on : List Bool) (t : Tally) (bytes looks : Lis
 
 -- pieces laid from a tally on
 abbrev pub PiecesLaid : List ℕ → List Bool → Tally → List Piece → List ℕ → List Bool → Tally → Type 0
-PiecesLaid buf on t ps buf′ on′ r = Laid buf on t (joinMap writePiece ps) (looksOf ps) buf′ on′ r
+PiecesLaid buf on t ps buf′ on′ r = Laid buf on t (flatMap writePiece ps) (looksOf ps) buf′ on′ r
 
 -- a row's cells, as many as a row may have: a text within rule 15 has no longer row
 unfoldable pub cutRow : List Cell → List Cell
@@ -57,4 +57,4 @@ pub record RowsDone (text : List ℕ) (pen : Pen) (paired : Bool) (buf : List �
 unfoldable pub contentOf : Format → ℕ → List ℕ → List Piece
 contentOf f vp text =
     let ts = tokens text in
-    pieces (f .screen .end) vp (isDouble ts) (map cutRow (cellRows (newPen (isDouble ts)) (rows (f .mode) ts)))
+    pieces (f .screen .end) vp (isDouble ts) (map cutRow (subtitleRows (f .mode) ts))

@@ -1,10 +1,8 @@
 // A set's text laid as the content of a paragraph: spans, line breaks and filler lines.
 
 ghost use mathlib.Core.Path.{_≡_};
-ghost use Prim.Native.Nat.{_+_, min};
-ghost use mathlib.Core.List.{[], _∷_, map};
+ghost use mathlib.Core.List.{[], _∷_, map, flatMap};
 ghost use lib.ListN.{replicate};
-ghost use Rattle.meaning.specs.Lists.{joinMap};
 ghost use Rattle.meaning.specs.Document.{escaped, writePiece};
 ghost use Rattle.meaning.specs.Document.Piece.{span, br};
 ghost use Rattle.meaning.specs.Conversion.{rowSpans, fillers};
@@ -15,6 +13,7 @@ ghost use Rattle.text.specs.Laid.{PiecesLaid, RowDone, RowsDone, content
 use meaning::Format;
 use meaning::Lines;
 use meaning::Pen;
+use meaning::ROW_LIMIT;
 use meaning::Rows;
 
 // Where the next byte goes, and the spans so far.
@@ -24,7 +23,7 @@ pub struct Tally {
 }
 
 fn put_characters(out: &mut [u8], at: usize, characters: &[u16]) -> usize
-    ensures { λ r. ⌜ Wrote (now (out .entry)) at (joinMap escaped (now (characters .entry))) (now (out .exit)) r ⌝ }
+    ensures { λ r. ⌜ Wrote (now (out .entry)) at (flatMap escaped (now (characters .entry))) (now (out .exit)) r ⌝ }
 {
     let mut p = at;
     let mut i = 0;
@@ -58,22 +57,22 @@ fn put_break(out: &mut [u8], at: usize) -> usize
 }
 
 // The filler lines between what a subtitle's rows cover and the end of the screen.
-fn filler_lines(end: u8, vp: u8, covered: Lines) -> u64
-    ensures { λ r. ⌜ r ≡ fillers end vp covered .0 ⌝ }
+fn filler_lines(end: u8, vp: u8, covered: Lines) -> Lines
+    ensures { λ r. ⌜ r ≡ fillers end vp covered ⌝ }
 {
     if end <= vp {
-        return 0;
+        return Lines(0);
     }
     let left = (end - vp) as u64;
     if left <= covered.0 {
-        0
+        Lines(0)
     } else {
-        left - covered.0
+        Lines(left - covered.0)
     }
 }
 
 fn put_breaks(out: &mut [u8], at: usize, n: u64) -> usize
-    ensures { λ r. ⌜ Wrote (now (out .entry)) at (joinMap writePiece (replicate n br)) (now (out .exit)) r ⌝ }
+    ensures { λ r. ⌜ Wrote (now (out .entry)) at (flatMap writePiece (replicate n br)) (now (out .exit)) r ⌝ }
 {
     let mut p = at;
     let mut k = 0;
@@ -109,11 +108,11 @@ fn put_row(
 }
 
 // One row laid, whether a row end follows it, the position after that, and the pen after the row.
-pub(crate) struct RowLaid {
-    pub tally: Tally,
-    pub ended: bool,
-    pub next: usize,
-    pub pen: Pen,
+struct RowLaid {
+    tally: Tally,
+    ended: bool,
+    next: usize,
+    pen: Pen,
 }
 
 fn lay_row(
@@ -126,8 +125,8 @@ fn lay_row(
 ) -> RowLaid
     ensures { λ r. ⌜ RowDone (now (text .entry)) start before (now (out .entry)) (now (marks .entry)) t (now (out .exit)) (now (marks .exit)) r ⌝ }
 {
-    let mut characters = [0u16; Rows::LONGEST];
-    let mut looks = [0u16; Rows::LONGEST];
+    let mut characters = [0u16; ROW_LIMIT];
+    let mut looks = [0u16; ROW_LIMIT];
     let row = cells::decode_row(text, start, before, &mut characters, &mut looks);
     let tally = put_row(out, marks, t, &characters, &looks, row.cells);
     let pen = row.pen;
@@ -140,9 +139,9 @@ fn lay_row(
 }
 
 // All rows laid, and their number.
-pub(crate) struct RowsLaid {
-    pub tally: Tally,
-    pub rows: u32,
+struct RowsLaid {
+    tally: Tally,
+    rows: u32,
 }
 
 fn lay_rows(
@@ -192,6 +191,7 @@ pub fn put_content(
     let laid = lay_rows(out, marks, t, text, Pen::new(double), paired);
     let lines = Rows(laid.rows).lines(double);
     let mut tally = laid.tally;
-    tally.at = put_breaks(out, tally.at, filler_lines(screen.end, vp, lines));
+    let fillers = filler_lines(screen.end, vp, lines);
+    tally.at = put_breaks(out, tally.at, fillers.0);
     tally
 }

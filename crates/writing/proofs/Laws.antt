@@ -27,9 +27,9 @@ use Rattle.sets.specs.declared.Current.the-variants.{Between}
 use Rattle.sets.specs.declared.Sets.{Sets}
 use Rattle.sets.specs.declared.Step.{Step}
 use Rattle.sets.specs.declared.Step.the-variants.{NoRoom, Broken, Pending, Closed}
-use Rattle.sets.specs.Assembling.{textRoom, setOf, currentOf, assemblyOf, eventOf, hasRoom, stepIn, textAfter}
+use Rattle.sets.specs.Assembling.{setOf, currentOf, assemblyOf, eventOf, hasRoom, stepIn, textAfter}
 use Rattle.sets.proofs.Laws.{same-event, step-event, text-kept}
-use Rattle.sets.proofs.Rooms.{room-left}
+use Rattle.sets.proofs.Rooms.{textRoom, room-left}
 use Rattle.writing.specs.declared.Writing.{Writing}
 use Rattle.closed.specs.Body.{Body, laySet}
 use Rattle.writing.specs.Laying.{Laying, layEvent, layBlocks, layingOf}

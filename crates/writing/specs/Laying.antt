@@ -1,5 +1,5 @@
 -- Pass two: each set that closes is laid, and no rule over texts is asked. A block that breaks a rule is passed over, so that every file has
--- an answer; a file that pass one found good has none.
+-- an answer; a file that pass one found good has no such block.
 -- Assumes nothing.
 use Prim.Native.Nat.{ℕ, zero, suc}
 use mathlib.Core.Bool.{Bool}

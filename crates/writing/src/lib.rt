@@ -13,9 +13,9 @@ use sets::Step;
 use text::Tally;
 
 // The sets so far, and how much is laid.
-pub struct Writing {
-    pub sets: Sets,
-    pub tally: Tally,
+struct Writing {
+    sets: Sets,
+    tally: Tally,
 }
 
 fn write_block(

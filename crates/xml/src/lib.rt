@@ -42,7 +42,7 @@ fn put_entity(out: &mut [u8], at: usize, c: u16) -> usize
     output::put(out, at, b"&gt;")
 }
 
-// Blanks and letters come first, told by one test: a branch that most characters take. The names' texts stand in a
+// 20h and 3Fh to 7Eh come first, told by one test: a branch that most characters take. The names' texts stand in a
 // function of their own, since a function lays its texts out at every call.
 pub fn put_escaped(out: &mut [u8], at: usize, c: u16) -> usize
     ensures { λ r. ⌜ Wrote (now (out .entry)) at (escaped c) (now (out .exit)) r ⌝ }

@@ -3,11 +3,12 @@
 use mathlib.Core.Path.{_≡_}
 use Prim.Native.Nat.{_-_, _≤_}
 use native.Mathlib.Omega.{arith}
-use Rattle.meaning.specs.Lists.{joinMap, upFrom}
+use Rattle.meaning.specs.Lists.{upFrom}
 use Rattle.meaning.specs.Looks.{lookCount}
 use Rattle.output.specs.Output.{Wrote}
 use Rattle.output.proofs.Laws.{wrote-length, wrote-as, wrote-nothing}
 use Rattle.styles.proofs.Laws.{linesTo, lines-more, lines-all}
+use mathlib.Core.List.{flatMap}
 use borrow.Author.Needs.{needs}
 use Rattle.styles.proofs.put_styles.Statement.{statement}
 use Rattle.styles.proofs.put_styles.Tie as tie
@@ -19,7 +20,7 @@ abbrev μ-loop : tie.MeasureT-loop
 μ-loop out₀ at marks p₀ look₀ out p look = lookCount - look
 
 loop-holds : tie.Need-loop-holds Inv-loop μ-loop
-unfolding linesTo upFrom joinMap
+unfolding linesTo upFrom flatMap
 loop-holds c = (omega arith, wrote-nothing _ _ (omega arith) (omega arith))
 
 loop-again : tie.Need-loop-again Inv-loop μ-loop

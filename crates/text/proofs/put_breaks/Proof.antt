@@ -4,8 +4,8 @@ use Prim.Native.Nat.{_-_, _≤_}
 use native.Mathlib.Omega.{arith}
 use mathlib.Core.Path.{_≡_}
 use lib.ListN.{replicate, replicate-append-replicate}
+use mathlib.Core.List.{flatMap}
 use borrow.Author.Needs.{needs}
-use Rattle.meaning.specs.Lists.{joinMap}
 use Rattle.meaning.specs.Document.{writePiece}
 use Rattle.meaning.specs.Document.Piece.{br}
 use Rattle.output.specs.Output.{Wrote}
@@ -14,13 +14,13 @@ use Rattle.text.proofs.put_breaks.Statement.{statement}
 use Rattle.text.proofs.put_breaks.Tie as tie
 
 abbrev Inv-loop : tie.InvT-loop
-Inv-loop out₀ at n p₀ k₀ out p k = (k ≤ n) × Wrote out₀ at (joinMap writePiece (replicate k br)) out p
+Inv-loop out₀ at n p₀ k₀ out p k = (k ≤ n) × Wrote out₀ at (flatMap writePiece (replicate k br)) out p
 
 abbrev μ-loop : tie.MeasureT-loop
 μ-loop out₀ at n p₀ k₀ out p k = n - k
 
 loop-holds : tie.Need-loop-holds Inv-loop μ-loop
-unfolding joinMap
+unfolding flatMap
 loop-holds c = (search needs, wrote-nothing _ _ (omega arith) (omega arith))
 
 loop-again : tie.Need-loop-again Inv-loop μ-loop

@@ -5,22 +5,22 @@ use native.Mathlib.Numerals.{add-one}
 use native.Mathlib.Omega.{arith}
 use lib.ListN.{length, take}
 use lib.Seq.{take-suc, take-all}
+use mathlib.Core.List.{flatMap}
 use borrow.Author.Needs.{needs}
 use Rattle.meaning.specs.Document.{escaped}
-use Rattle.meaning.specs.Lists.{joinMap}
 use Rattle.output.specs.Output.{Wrote}
 use Rattle.output.proofs.Laws.{wrote-length, wrote-nothing, wrote-more}
 use Rattle.text.proofs.put_characters.Statement.{statement}
 use Rattle.text.proofs.put_characters.Tie as tie
 
 abbrev Inv-loop : tie.InvT-loop
-Inv-loop out₀ at characters p₀ i₀ out p i = (i ≤ length characters) × Wrote out₀ at (joinMap escaped (take i characters)) out p
+Inv-loop out₀ at characters p₀ i₀ out p i = (i ≤ length characters) × Wrote out₀ at (flatMap escaped (take i characters)) out p
 
 abbrev μ-loop : tie.MeasureT-loop
 μ-loop out₀ at characters p₀ i₀ out p i = length characters - i
 
 loop-holds : tie.Need-loop-holds Inv-loop μ-loop
-unfolding joinMap
+unfolding flatMap
 loop-holds c = (search needs, wrote-nothing _ _ (omega arith) (omega arith))
 
 loop-again : tie.Need-loop-again Inv-loop μ-loop

@@ -9,8 +9,8 @@ use Rattle.text.proofs.put_content.Tie as tie
 returns : tie.Need-returns
 returns c =
     let b = c .before .before in
-    let n = b .before in
-    let l = n .before .before .before in
+    let n = b .before .before in
+    let l = n .before .before in
     let r = l .before .before .before .before .before in
     let p = r .before .before .before .before in
     let d = p .before in

@@ -1,16 +1,16 @@
 -- `put_span` lays one span: five writes, one count, one mark.
 -- Assumes nothing.
-use mathlib.Core.List.{append-nil}
+use mathlib.Core.List.{append-nil, flatMap}
 use borrow.Author.Needs.{needs}
 use Rattle.meaning.specs.Document.{writePiece, writeSpan, looksOf}
-use Rattle.meaning.specs.Lists.{joinMap, joined, bytes}
+use Rattle.meaning.specs.Lists.{joined, bytes}
 use Rattle.output.proofs.Laws.{_⨟_, wrote-as}
 use Rattle.text.specs.Laid.{markedWith}
 use Rattle.text.proofs.put_span.Statement.{statement}
 use Rattle.text.proofs.put_span.Tie as tie
 
 returns : tie.Need-returns
-unfolding joinMap writePiece writeSpan joined bytes looksOf markedWith
+unfolding flatMap writePiece writeSpan joined bytes looksOf markedWith
 returns c =
     let m = c .before .before .before in
     let c5 = m .before .before .before .before in

@@ -5,7 +5,7 @@ use native.Mathlib.Omega.{arith}
 use mathlib.Core.Path.{sym}
 use borrow.Author.Needs.{needs}
 use lib.ListN.{length-replicate}
-use Rattle.sets.specs.Assembling.{textRoom}
+use Rattle.sets.proofs.Rooms.{textRoom}
 use Rattle.writing.proofs.Laws.{Written, written-none, written-ready, written-more, written-all}
 use Rattle.writing.proofs.write_blocks.Statement.{statement}
 use Rattle.writing.proofs.write_blocks.Tie as tie

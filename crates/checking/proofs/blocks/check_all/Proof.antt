@@ -5,8 +5,8 @@ use native.Mathlib.Omega.{arith}
 use mathlib.Core.Path.{sym}
 use borrow.Author.Needs.{needs}
 use lib.ListN.{length-replicate}
+use Rattle.sets.proofs.Rooms.{textRoom}
 use Rattle.meaning.specs.Walk.{setRule}
-use Rattle.sets.specs.Assembling.{textRoom}
 use Rattle.meaning.proofs.RefusalLaws.{good-number, bad-number}
 use Rattle.checking.proofs.Looping.{Passed, passed-none, passed-refused, passed-all, passed-ready, passed-more}
 use Rattle.checking.proofs.blocks.check_all.Statement.{statement}

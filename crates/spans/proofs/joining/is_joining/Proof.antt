@@ -10,15 +10,19 @@ returns : tie.Need-returns
 unfolding joins packedCell
 returns c =
     let b = c .before .before .before in
+    let u = b .before .before .before in
     rw (
-      c .before .packed-free2 .ensures,
-      c .before .before .packed-free .ensures,
+      c .before .free2 .ensures,
+      c .before .before .free .ensures,
       b .is-blank .ensures,
-      b .before .packed-shared2 .ensures,
-      b .before .before .packed-shared .ensures,
+      b .before .shared2 .ensures,
+      b .before .before .shared .ensures,
+      u .unpack3 .ensures,
+      u .before .unpack2 .ensures,
+      u .before .before .unpack .ensures,
     )
 
 pub is-joining-spec : {M : Type 1} → statement M
 is-joining-spec =
     tie.close (tie.spec (λ c κs. search needs) (λ c κs. search needs) (λ c κs. search needs) (λ c κs. search needs) (λ c κs. search needs)
-    returns)
+    (λ c κs. search needs) (λ c κs. search needs) (λ c κs. search needs) returns)

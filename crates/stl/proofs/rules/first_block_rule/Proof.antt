@@ -18,13 +18,15 @@ returns c =
 returns-2 : tie.Need-returns-2
 unfolding firstBlockRules subtitleRules noRefusal
 returns-2 c =
-    let c3 = c .before .before .before .before in
+    let c4 = c .before .before in
+    let c3 = c4 .before .before .before .before in
     let c2 = c3 .before .before .before .before in
     rw (
-      c .or5 .ensures,
-      c .before .is-placed .ensures,
-      c .before .before .or4 .ensures,
-      c .before .before .before .times-right .ensures,
+      c .or6 .ensures,
+      c4 .or5 .ensures,
+      c4 .before .on-screen .ensures,
+      c4 .before .before .or4 .ensures,
+      c4 .before .before .before .times-right .ensures,
       c3 .or3 .ensures,
       c2 .or2 .ensures,
       c2 .before .before .or .ensures,
@@ -35,4 +37,4 @@ returns-2 c =
 pub first-block-rule-spec : {M : Type 1} → statement M
 first-block-rule-spec =
     tie.close (tie.spec (λ c κs. search needs) (λ c. search needs) (λ c κs. search needs) (λ c κs. search needs) returns (λ c κs. search needs)
-    (λ c κs. search needs) (λ c κs. search needs) (λ c κs. search needs) (λ c κs. search needs) returns-2)
+    (λ c κs. search needs) (λ c κs. search needs) (λ c κs. search needs) (λ c κs. search needs) (λ c κs. search needs) returns-2)

@@ -1,27 +1,16 @@
--- A text's first row, and what follows it: how the rows are met when a text is read from the left.
+-- A text's first row and what follows it, as the rows are met when a text is read from the left.
 -- Assumes nothing.
-use mathlib.Core.Bool.{Bool, true, false, cond, not}
+use mathlib.Core.Bool.{Bool, true, false, cond}
 use mathlib.Core.List.{List, [], _∷_}
 use Rattle.meaning.specs.declared.Token.{Token}
-use Rattle.meaning.specs.Lists.{any, takeWhile}
 use Rattle.meaning.specs.Codes.{isRowEnd}
-use Rattle.meaning.specs.Rows.{splitRows, pairedFrom}
-
--- the tokens before the first row end
-unfoldable pub inRow : Token → Bool
-inRow t = not (isRowEnd t)
-
-unfoldable pub firstRow : List Token → List Token
-firstRow ts = takeWhile inRow ts
+use Rattle.meaning.specs.Rows.{rowsOf}
+use Rattle.rows.specs.Scanned.{isEnded}
 
 -- the tokens after the first row end
 unfoldable pub afterRow : List Token → List Token
 afterRow [] = []
 afterRow (t ∷ ts) = elim (isRowEnd t) [ true ↦ ts | false ↦ afterRow ts ]
-
--- there is a row end
-unfoldable pub isEnded : List Token → Bool
-isEnded ts = any isRowEnd ts
 
 -- a row end stands first
 unfoldable pub endFirst : List Token → Bool
@@ -36,10 +25,6 @@ withoutEnd (t ∷ ts) = elim (isRowEnd t) [ true ↦ ts | false ↦ t ∷ ts ]
 -- what follows the first row, where row ends are paired or not
 unfoldable pub nextRows : Bool → List Token → List Token
 nextRows paired ts = cond paired (withoutEnd (afterRow ts)) (afterRow ts)
-
--- the rows of a text where row ends are paired or not
-unfoldable pub rowsOf : Bool → List Token → List (List Token)
-rowsOf paired ts = splitRows (cond paired (pairedFrom false ts) ts)
 
 -- the rows after the first
 unfoldable pub rowsAfter : Bool → List Token → List (List Token)

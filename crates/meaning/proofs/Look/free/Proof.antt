@@ -1,0 +1,13 @@
+-- `Look::free` gives what a blank leaves open.
+-- Assumes nothing.
+use borrow.Author.Needs.{needs}
+use Rattle.meaning.specs.Looks.{free}
+use Rattle.meaning.proofs.Look.free.Statement.{statement}
+use Rattle.meaning.proofs.Look.free.Tie as tie
+
+returns : tie.Need-returns
+unfolding free
+returns c = search needs
+
+pub free-spec : {M : Type 1} → statement M
+free-spec = tie.close (tie.spec (λ c. search needs) returns)
