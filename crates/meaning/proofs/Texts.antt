@@ -2,12 +2,18 @@
 -- Assumes nothing.
 use Prim.Native.Nat.{ℕ, _≤_}
 use native.Mathlib.Omega.{arith}
+use native.Mathlib.Nat.{le-trans}
+use mathlib.Core.Bool.{Bool}
 use mathlib.Core.List.{List}
-use lib.ListN.{length, drop, length-take}
-use Rattle.meaning.specs.Lists.{field}
+use lib.ListN.{length, take, drop, length-take}
+use Rattle.meaning.specs.Lists.{takeWhile, field}
 use Rattle.meaning.specs.Blocks.{textSize, inText, blockText}
 use Rattle.meaning.proofs.ListLaws.{while-short}
 
+field-short : (p : ℕ → Bool) (from n : ℕ) (s : List ℕ) → length (takeWhile p (field from n s)) ≤ n
+unfolding field
+field-short p from n s = omega (arith, while-short p (take n (drop from s)), length-take n (drop from s))
+
 pub text-short : (b : List ℕ) → length (blockText b) ≤ textSize
-unfolding blockText field
-text-short b = omega (arith, while-short inText (field 16 textSize b), length-take textSize (drop 16 b))
+unfolding blockText
+text-short b = le-trans (field-short inText _ _ b) (omega arith)
