@@ -2,22 +2,16 @@
 -- Assumes nothing.
 use Prim.Native.Nat.{ℕ}
 use mathlib.Core.Bool.{Bool, true, false}
-use mathlib.Core.Path.{_≡_}
 use mathlib.Core.List.{List, [], _∷_}
-use mathlib.Core.Option.{some}
 use lib.ListN.{replicate}
-use Rattle.meaning.specs.declared.Format.{Format}
 use Rattle.meaning.specs.Refusals.{noRefusal, isGood}
 use Rattle.meaning.specs.Looks.{lookCount}
-use Rattle.meaning.specs.Blocks.{headerOf}
-use Rattle.meaning.specs.Sets.{advance}
-use Rattle.meaning.specs.Walk.{noCounts, counted, isOpen, Outcome}
+use Rattle.meaning.specs.Walk.{noCounts, Outcome}
 use Rattle.meaning.specs.Walk.Outcome.{refused, accepted}
-use Rattle.sets.specs.Assembling.{assemblyOf, eventOf}
+use Rattle.sets.specs.Assembling.{assemblyOf}
 use Rattle.closed.specs.Body.{Body}
 use Rattle.checking.specs.declared.Checked.{Checked}
 use Rattle.checking.specs.declared.blocks.Pass.{Pass}
-use Rattle.checking.specs.declared.blocks.Taken.{Taken}
 
 -- nothing laid yet: the buffer of pass one has one byte, which is not read
 abbrev pub emptyBody : Body
@@ -38,8 +32,3 @@ checkedOf (refused r) =
     record { refusal = r; counts = noCounts; tally = emptyBody .tally; marks = record { on = emptyBody .marks } }
 checkedOf (accepted p) =
     record { refusal = noRefusal; counts = p .counts; tally = p .gathered .tally; marks = record { on = p .gathered .marks } }
-
--- a block was taken: the step that it made with the text buffer after it, and the counts with it
-pub record TakenBlock (f : Format) (place : ℕ) (b : List ℕ) (w : Pass) (text text′ : List ℕ) (r : Taken) : Type 0 where
-  pub event : eventOf (r .step) text′ ≡ some (advance f place b (assemblyOf (w .sets) text))
-  pub count : r .counts ≡ counted (isOpen (assemblyOf (w .sets) text)) (headerOf b) (w .counts)
