@@ -11,17 +11,17 @@ use Rattle.meaning.specs.declared.Format.{Format}
 use Rattle.meaning.specs.Refusals.{isGood}
 use Rattle.meaning.specs.Blocks.{blocks, blockAt}
 use Rattle.meaning.specs.Sets.{BlockSet, noBlocks}
-use Rattle.meaning.specs.Walk.{noCounts, total, begun, Outcome, steps, step, finish, walk}
+use Rattle.meaning.specs.Walk.{noCounts, begun, Outcome, steps, step, finish, walk}
 use Rattle.meaning.specs.Walk.Outcome.{accepted}
 use Rattle.meaning.proofs.RefusalLaws.{good-number}
 use Rattle.laws.proofs.Steps.{walk-more, walk-stays}
 use Rattle.laws.proofs.Walk.{WithinIf, walk-within}
 use Rattle.sets.specs.declared.Current.the-variants.{Between}
-use Rattle.sets.specs.Assembling.{currentOf, assemblyOf, hasRoom, roomFor}
+use Rattle.sets.specs.Assembling.{currentOf, assemblyOf, roomFor}
 use Rattle.sets.proofs.Rooms.{room-left}
 use Rattle.checking.specs.declared.blocks.Pass.{Pass}
 use Rattle.closed.specs.Body.{Body, laySet}
-use Rattle.checking.specs.Passing.{outcomeOf}
+use Rattle.checking.specs.Passing.{outcomeOf, CanTake}
 use Rattle.checking.proofs.Stepping.{outcome-good, outcome-bad}
 
 module _ (f : Format) (rule : BlockSet → Refusal) (file : List ℕ) (n room : ℕ) (body : Body) where
@@ -62,8 +62,8 @@ module _ (f : Format) (rule : BlockSet → Refusal) (file : List ℕ) (n room : 
       within : WithinIf {A = Body} k (accepted (record { assembly = assemblyOf (w .sets) text; counts = w .counts; gathered = record { out = out; marks = marks; tally = w .tally } }))
       within = rw (sym (l .stands), outcome-good w text out marks e) at (walk-within f rule (laySet f) body file k)
 
-      pub passed-ready : (b : List ℕ) → roomFor n ≤ room → n < 2 ^ 64 → k < n → (hasRoom b (w .sets) text ≡ true) × (total (w .counts) + 1 < 2 ^ 64)
-      passed-ready b r m h = (room-left k text (omega (arith, l .long)) b (w .sets) (within .fits), omega (arith, within .counts))
+      pub passed-ready : (b : List ℕ) → roomFor n ≤ room → n < 2 ^ 64 → k < n → CanTake b w text
+      passed-ready b r m h = (e, room-left k text (omega (arith, l .long)) b (w .sets) (within .fits), omega (arith, within .counts))
 
     pub passed-more :
         {b text′ out′ : List ℕ} {marks′ : List Bool} {r : Pass} → k < n → b ≡ blockAt file k → length text′ ≡ length text → length out′ ≡ length out

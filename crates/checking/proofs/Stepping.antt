@@ -9,10 +9,9 @@ use mathlib.Core.Option.{some, Option·some-injective}
 use Rattle.meaning.specs.declared.Refusal.{Refusal}
 use Rattle.meaning.specs.declared.Format.{Format}
 use Rattle.meaning.specs.Refusals.{noRefusal, isGood}
-use Rattle.meaning.specs.Blocks.{headerOf}
 use Rattle.meaning.specs.Sets.{BlockSet, Event, advance}
 use Rattle.meaning.specs.Sets.Event.{closed}
-use Rattle.meaning.specs.Walk.{noCounts, counted, isOpen, Outcome, judge, step, finish}
+use Rattle.meaning.specs.Walk.{noCounts, isOpen, Outcome, judge, step, finish}
 use Rattle.meaning.specs.Walk.Outcome.{refused, accepted}
 use Rattle.meaning.proofs.Logic.{none-not-some}
 use Rattle.meaning.proofs.RefusalLaws.{good-number, bad-number}
@@ -21,12 +20,12 @@ use Rattle.text.specs.declared.Tally.{Tally}
 use Rattle.sets.specs.declared.Set.{Set}
 use Rattle.sets.specs.declared.Sets.{Sets}
 use Rattle.sets.specs.declared.Step.the-variants.{NoRoom, Broken, Pending, Closed}
-use Rattle.sets.specs.Assembling.{setOf, assemblyOf, eventOf, hasRoom, stepIn, textAfter}
+use Rattle.sets.specs.Assembling.{setOf, assemblyOf, eventOf, textAfter}
 use Rattle.sets.proofs.Laws.{step-event}
 use Rattle.checking.specs.declared.blocks.Pass.{Pass}
 use Rattle.checking.specs.declared.blocks.Taken.{Taken}
 use Rattle.closed.specs.Body.{Body, laySet}
-use Rattle.checking.specs.Passing.{emptyBody, outcomeOf, checkedOf}
+use Rattle.checking.specs.Passing.{emptyBody, outcomeOf, CanTake, takenIn, checkedOf}
 
 module _ (w : Pass) (text out : List ℕ) (marks : List Bool) where
   pub outcome-good :
@@ -41,19 +40,19 @@ module _ (w : Pass) (text out : List ℕ) (marks : List Bool) where
   outcome-bad e = rw (e, outcomeOf)
 
 -- one block more, by the step that it made and the counts with it, whatever the rule over closed sets is
-module _ (rule : BlockSet → Refusal) (f : Format) (place : ℕ) (b : List ℕ) (w : Pass) (text out : List ℕ) (marks : List Bool) {text′ : List ℕ} {r : Taken} (good : isGood (w .refusal) ≡ true) (room : hasRoom b (w .sets) text ≡ true) (t : (r ≡ record { step = stepIn f place b (w .sets) text; counts = counted (isOpen (assemblyOf (w .sets) text)) (headerOf b) (w .counts) }) × (text′ ≡ textAfter b (w .sets) text)) where
+module _ (rule : BlockSet → Refusal) (f : Format) (place : ℕ) (b : List ℕ) (w : Pass) (text out : List ℕ) (marks : List Bool) {text′ : List ℕ} {r : Taken} (ready : CanTake b w text) (t : (r ≡ takenIn f place b w text) × (text′ ≡ textAfter b (w .sets) text)) where
   -- what is promised of the pass after it
   abbrev Stepped : Outcome Body → Type 0
   Stepped o = o ≡ step f rule (laySet f) place (outcomeOf w text out marks) b
 
   event : some (advance f place b (assemblyOf (w .sets) text)) ≡ eventOf (r .step) text′
-  event = step-event f place b (w .sets) text room (ap (λ (x : Taken). x .step) (t .0), t .1)
+  event = step-event f place b (w .sets) text (ready .1) (ap (λ (x : Taken). x .step) (t .0), t .1)
 
   judged :
       {e : Event} → advance f place b (assemblyOf (w .sets) text) ≡ e
       → judge f rule (laySet f) (r .counts) (record { out = out; marks = marks; tally = w .tally }) e ≡ step f rule (laySet f) place (outcomeOf w text out marks) b
   unfolding step
-  judged e = rw (sym e, outcome-good w text out marks good, ap (λ (x : Taken). x .counts) (t .0))
+  judged e = rw (sym e, outcome-good w text out marks (ready .0), ap (λ (x : Taken). x .counts) (t .0))
 
   pub on-full : r .step ≡ NoRoom → Stepped (outcomeOf w text′ out marks)
   unfolding eventOf
@@ -67,7 +66,7 @@ module _ (rule : BlockSet → Refusal) (f : Format) (place : ℕ) (b : List ℕ)
 
   pub on-pending : {s : Sets} → r .step ≡ Pending s → Stepped (outcomeOf (record { refusal = w .refusal; sets = s; counts = r .counts; tally = w .tally }) text′ out marks)
   unfolding eventOf judge
-  on-pending e = outcome-good _ text′ out marks good ∙ judged (Option·some-injective _ _ (rw e at event))
+  on-pending e = outcome-good _ text′ out marks (ready .0) ∙ judged (Option·some-injective _ _ (rw e at event))
 
   module _ {set : Set} {s : Sets} (e : r .step ≡ Closed set s) where
     is-closed : advance f place b (assemblyOf (w .sets) text) ≡ closed (setOf set text′) (assemblyOf s text′)
@@ -88,7 +87,7 @@ module _ (rule : BlockSet → Refusal) (f : Format) (place : ℕ) (b : List ℕ)
         → Stepped (outcomeOf (record { refusal = w .refusal; sets = s; counts = r .counts; tally = u }) text′ out′ marks′)
     unfolding judge
     on-good y {out′} {marks′} {u} l =
-        outcome-good _ text′ out′ marks′ good
+        outcome-good _ text′ out′ marks′ (ready .0)
         ∙ ap (λ (p : Body). accepted (record { assembly = assemblyOf s text′; counts = r .counts; gathered = p })) l
         ∙ (rw (y, judge) at (judged is-closed))
 

@@ -1,16 +1,14 @@
 // Pass one: the walk of the definitions. Each set that closes is judged and its paragraph measured.
 
 ghost use mathlib.Core.Path.{_≡_};
-ghost use mathlib.Core.Bool.{Bool, true};
+ghost use mathlib.Core.Bool.{Bool};
 ghost use mathlib.Core.List.{List};
 ghost use Prim.Native.Nat.{ℕ, _+_, _≤_, _<_, _^_};
 ghost use lib.ListN.{length};
-ghost use Rattle.meaning.specs.Refusals.{isGood};
-ghost use Rattle.meaning.specs.Blocks.{headerOf};
-ghost use Rattle.meaning.specs.Walk.{total, counted, isOpen, setRule, step, finish, walk};
-ghost use Rattle.sets.specs.Assembling.{assemblyOf, hasRoom, roomFor, stepIn, textAfter};
+ghost use Rattle.meaning.specs.Walk.{total, counted, setRule, step, finish, walk};
+ghost use Rattle.sets.specs.Assembling.{roomFor, textAfter};
 ghost use Rattle.closed.specs.Body.{laySet};
-ghost use Rattle.checking.specs.Passing.{outcomeOf};
+ghost use Rattle.checking.specs.Passing.{outcomeOf, CanTake, takenIn};
 use closed::lay;
 use closed::set_rule;
 use meaning::Counts;
@@ -105,7 +103,7 @@ struct Taken {
 
 fn take_block(f: Format, place: u64, bytes: &[u8], text: &mut [u8], w: Pass) -> Taken
     requires { ⌜ total (w .counts) + 1 < 2 ^ 64 ⌝ }
-    ensures taken { λ r. ⌜ r ≡ record { step = stepIn f place (now (bytes .entry)) (w .sets) (now (text .entry)); counts = counted (isOpen (assemblyOf (w .sets) (now (text .entry)))) (headerOf (now (bytes .entry))) (w .counts) } ⌝ }
+    ensures taken { λ r. ⌜ r ≡ takenIn f place (now (bytes .entry)) w (now (text .entry)) ⌝ }
     ensures text { λ _. ⌜ now (text .exit) ≡ textAfter (now (bytes .entry)) (w .sets) (now (text .entry)) ⌝ }
 {
     let sets = w.sets;
@@ -124,7 +122,7 @@ fn check_block(
     marks: &mut [bool],
     w: Pass,
 ) -> Pass
-    requires { ⌜ (isGood (w .refusal) ≡ true) × (hasRoom (now bytes) (w .sets) (now text) ≡ true) × (total (w .counts) + 1 < 2 ^ 64) ⌝ }
+    requires { ⌜ CanTake (now bytes) w (now text) ⌝ }
     ensures { λ r. ⌜ outcomeOf r (now (text .exit)) (now (out .exit)) (now (marks .exit)) ≡ step f (setRule f) (laySet f) place (outcomeOf w (now (text .entry)) (now (out .entry)) (now (marks .entry))) (now (bytes .entry)) ⌝ }
 {
     let taken = take_block(f, place, bytes, text, w);

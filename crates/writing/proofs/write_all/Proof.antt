@@ -36,19 +36,10 @@ loop-again c =
     written-more _ _ _ _ _ (l .before .loop .inv) (l .loop-test .taken) (b .before .before .before .before .bytes-at .ensures) (b .write-block .kept .1 .1 .1 .0)
     (b .write-block .kept .1 .1 .1 .1 .0) (b .write-block .kept .1 .1 .1 .1 .1 .0) (b .write-block .ensures)
 
-same-length : tie.Need-same-length Inv-loop μ-loop
-same-length c = c .before .before .loop .inv .long
-
-same-length-2 : tie.Need-same-length-2 Inv-loop μ-loop
-same-length-2 c = c .before .before .loop .inv .same
-
-same-length-3 : tie.Need-same-length-3 Inv-loop μ-loop
-same-length-3 c = c .before .before .loop .inv .marked
-
 returns : tie.Need-returns Inv-loop μ-loop
 returns c = written-all _ _ _ _ _ (c .before .before .loop .inv) (c .before .loop-test .left)
 
 pub write-all-spec : {M : Type 1} → statement M
 write-all-spec =
     tie.close (tie.spec Inv-loop μ-loop loop-holds (λ c κs. search needs) write-block-requires add-k (λ c. search needs) loop-again
-    same-length same-length-2 same-length-3 returns)
+    (λ c. search needs) (λ c. search needs) (λ c. search needs) returns)

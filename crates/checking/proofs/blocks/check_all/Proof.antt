@@ -21,15 +21,6 @@ abbrev μ-loop : tie.MeasureT-loop
 loop-holds : tie.Need-loop-holds Inv-loop μ-loop
 loop-holds c = passed-none _ _ _ _ _ _ _ refl
 
-same-length : tie.Need-same-length Inv-loop μ-loop
-same-length c = c .before .before .before .before .loop .inv .long
-
-same-length-2 : tie.Need-same-length-2 Inv-loop μ-loop
-same-length-2 c = c .before .before .before .before .loop .inv .same
-
-same-length-3 : tie.Need-same-length-3 Inv-loop μ-loop
-same-length-3 c = c .before .before .before .before .loop .inv .marked
-
 returns : tie.Need-returns Inv-loop μ-loop
 returns c = passed-refused _ _ _ _ _ _ (c .before .before .before .before .loop .inv) (bad-number _ (c .if1 .taken))
 
@@ -37,9 +28,7 @@ check-block-requires : tie.Need-check-block-requires Inv-loop μ-loop
 check-block-requires c κs =
     let i = c .before .before .before .before in
     let l = i .before .before .before in
-    let g = good-number _ (i .if1 .left) in
-    let r = passed-ready _ _ _ _ _ _ (l .before .loop .inv) g _ (l .before .before .before .before .before .before .pre) (omega arith) (l .loop-test .taken) in
-    (g, r .0, r .1)
+    passed-ready _ _ _ _ _ _ (l .before .loop .inv) (good-number _ (i .if1 .left)) _ (l .before .before .before .before .before .before .pre) (omega arith) (l .loop-test .taken)
 
 add-k : tie.Need-add-k Inv-loop μ-loop
 add-k c =
@@ -53,19 +42,10 @@ loop-again c =
     passed-more _ _ _ _ _ _ (l .before .loop .inv) (l .loop-test .taken) (b .before .before .before .before .bytes-at .ensures) (b .check-block .kept .1 .1 .1 .0)
     (b .check-block .kept .1 .1 .1 .1 .0) (b .check-block .kept .1 .1 .1 .1 .1 .0) (b .check-block .ensures)
 
-same-length-4 : tie.Need-same-length-4 Inv-loop μ-loop
-same-length-4 c = c .before .before .loop .inv .long
-
-same-length-5 : tie.Need-same-length-5 Inv-loop μ-loop
-same-length-5 c = c .before .before .loop .inv .same
-
-same-length-6 : tie.Need-same-length-6 Inv-loop μ-loop
-same-length-6 c = c .before .before .loop .inv .marked
-
 returns-2 : tie.Need-returns-2 Inv-loop μ-loop
 returns-2 c = let l = c .before in passed-all _ _ _ _ _ _ (l .before .loop .inv) (l .loop-test .left) (c .finished .ensures _ _ _)
 
 pub check-all-spec : {M : Type 1} → statement M
 check-all-spec =
-    tie.close (tie.spec Inv-loop μ-loop loop-holds same-length same-length-2 same-length-3 returns (λ c κs. search needs)
-    check-block-requires add-k (λ c. search needs) loop-again (λ c κs. search needs) same-length-4 same-length-5 same-length-6 returns-2)
+    tie.close (tie.spec Inv-loop μ-loop loop-holds (λ c. search needs) (λ c. search needs) (λ c. search needs) returns (λ c κs. search needs)
+    check-block-requires add-k (λ c. search needs) loop-again (λ c κs. search needs) (λ c. search needs) (λ c. search needs) (λ c. search needs) returns-2)
