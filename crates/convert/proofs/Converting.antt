@@ -58,7 +58,7 @@ paragraph-whole f place h text e = rw (content-whole f place (h .vp) text e)
 unfoldable bodyOf : Format → Body → List Subtitle → Body
 bodyOf f p ss = laid (map (paragraphOf f) ss) p
 
--- nothing is laid on a body so far, and it can be
+-- a body that nothing laid leaves as it is
 abbrev Here : Body → Type 0
 Here p = Laid (p .out) (p .marks) (p .tally) [] [] (p .out) (p .marks) (p .tally)
 
@@ -132,9 +132,9 @@ module _ (mode : ℕ) (file : List ℕ) where
       × ((p : Progress (List Subtitle)) → outcome mode file ≡ accepted p → marks .on ≡ marksOf (formatOf mode file) (p .gathered))
 
   module _ {rule : Refusal} (e : rule ≡ fileRule mode file) where
-    pub known-rule : (room : ℕ) {a : Answer} (marks : Marks) → (rule .number ≡ 0 → ⊥) → a ≡ refusedAnswer rule 0 → Answered room a marks
+    pub answered-rule : (room : ℕ) {a : Answer} (marks : Marks) → (rule .number ≡ 0 → ⊥) → a ≡ refusedAnswer rule 0 → Answered room a marks
     unfolding outcome answer answerTo
-    known-rule room marks z d =
+    answered-rule room marks z d =
         let b : isGood (fileRule mode file) ≡ false = rw (sym e) (bad-number rule z) in
         let o : outcome mode file ≡ refused rule = rw (b, outcome) (ap refused (sym e)) in
         (d ∙ rw o, λ p c. absurd (refused-not (sym o ∙ c)))
@@ -143,11 +143,11 @@ module _ (mode : ℕ) (file : List ℕ) where
       good : isGood (fileRule mode file) ≡ true
       good = rw (sym e) (good-number rule z)
 
-      pub known-walk :
+      pub answered-walk :
           (room : ℕ) {a : Answer} {f : Format} {n : ℕ} (c : Checked) → f ≡ formatOf mode file → n ≡ blockCount file
           → c ≡ checkedOf (finish n (walk f (setRule f) (laySet f) emptyBody file n)) → a ≡ answerOf f room c → Answered room a (c .marks)
       unfolding answer checkedOf mapped bodyOf laid marksOf
-      known-walk room c g b s d =
+      answered-walk room c g b s d =
           let h : Here emptyBody = laid-nothing _ _ _ (omega arith) (omega arith) (omega arith) in
           let x : c ≡ checkedOf (mapped (bodyOf (formatOf mode file) emptyBody) (outcome mode file)) = s ∙ rw (g, b) (ap checkedOf (outcome-laid emptyBody h good)) in (
             d ∙ rw (x, g) (answer-right room (outcome mode file) refl),

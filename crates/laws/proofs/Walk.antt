@@ -38,7 +38,7 @@ total-counted inSet h c =
     (λ u. rw u (omega arith))
     (λ u. by-test inSet (λ i. rw (u, i) (omega arith)) (λ i. by-test (isComment h) (λ k. rw (u, i, k) (omega arith)) (λ k. rw (u, i, k) (omega arith))))
 
--- a set that can go on, after n blocks: its text is that of blocks 00h to its last
+-- a set that can go on, after n blocks: its text is that of blocks 00h to its last, which are no more than n
 pub record Short (n : ℕ) (s : BlockSet) : Type 0 where
   pub size : length (s .text) ≤ textSize * suc (s .last)
   pub last : s .last < 240
@@ -143,7 +143,7 @@ last-fits n s least h =
     (λ t. rw (t, closeAtLast) refl)
     (λ t. rw (t, closeAtLast) (λ q g. (let z : s ≡ q = cc in subst (Short n) z (h (eqb-false (s .last) 255 t)))))
 
--- a block, behind as many as its place tells
+-- one block more: its place is the number of those before it
 module _ (f : Format) (place : ℕ) (b : List ℕ) where
   opening-fits : (least : ℕ) → BoundedAfter (suc place) (opening f place (headerOf b) (blockText b) least)
   unfolding opening
