@@ -1,14 +1,14 @@
 // Pass one: the walk of the definitions. Each set that closes is judged and its paragraph measured.
 
 ghost use mathlib.Core.Path.{_≡_};
-ghost use mathlib.Core.Bool.{Bool, true};
+ghost use mathlib.Core.Bool.{Bool};
 ghost use mathlib.Core.List.{List};
-ghost use Prim.Native.Nat.{ℕ, _+_, _<_, _^_};
-ghost use Rattle.meaning.specs.Refusals.{isGood};
+ghost use Prim.Native.Nat.{ℕ, _+_, _≤_, _<_, _^_};
+ghost use lib.ListN.{length};
 ghost use Rattle.meaning.specs.Walk.{total, counted, setRule, step, finish, walk};
-ghost use Rattle.sets.specs.Assembling.{hasRoom};
+ghost use Rattle.sets.specs.Assembling.{roomFor, textAfter};
 ghost use Rattle.closed.specs.Body.{laySet};
-ghost use Rattle.checking.specs.Passing.{outcomeOf, TakenBlock};
+ghost use Rattle.checking.specs.Passing.{outcomeOf, CanTake, takenIn};
 use closed::lay;
 use closed::set_rule;
 use meaning::Counts;
@@ -102,8 +102,9 @@ struct Taken {
 }
 
 fn take_block(f: Format, place: u64, bytes: &[u8], text: &mut [u8], w: Pass) -> Taken
-    requires { ⌜ (hasRoom (now bytes) (w .sets) (now text) ≡ true) × (total (w .counts) + 1 < 2 ^ 64) ⌝ }
-    ensures { λ r. ⌜ TakenBlock f place (now (bytes .entry)) w (now (text .entry)) (now (text .exit)) r ⌝ }
+    requires { ⌜ total (w .counts) + 1 < 2 ^ 64 ⌝ }
+    ensures taken { λ r. ⌜ r ≡ takenIn f place (now (bytes .entry)) w (now (text .entry)) ⌝ }
+    ensures text { λ _. ⌜ now (text .exit) ≡ textAfter (now (bytes .entry)) (w .sets) (now (text .entry)) ⌝ }
 {
     let sets = w.sets;
     let counts = counted(w.counts, sets.is_open(), block::header_of(bytes));
@@ -121,7 +122,7 @@ fn check_block(
     marks: &mut [bool],
     w: Pass,
 ) -> Pass
-    requires { ⌜ (isGood (w .refusal) ≡ true) × (hasRoom (now bytes) (w .sets) (now text) ≡ true) × (total (w .counts) + 1 < 2 ^ 64) ⌝ }
+    requires { ⌜ CanTake (now bytes) w (now text) ⌝ }
     ensures { λ r. ⌜ outcomeOf r (now (text .exit)) (now (out .exit)) (now (marks .exit)) ≡ step f (setRule f) (laySet f) place (outcomeOf w (now (text .entry)) (now (out .entry)) (now (marks .entry))) (now (bytes .entry)) ⌝ }
 {
     let taken = take_block(f, place, bytes, text, w);
@@ -141,18 +142,19 @@ fn check_block(
     }
 }
 
-// The first n blocks, from what was laid before them.
+// The first n blocks, from what was laid before them, with a text buffer that has room for their texts.
 pub(crate) fn check_all(
     file: &[u8],
     n: usize,
     f: Format,
+    text: &mut [u8],
     out: &mut [u8],
     marks: &mut [bool],
     t: Tally,
 ) -> Pass
-    ensures { λ r. ⌜ ((text : List ℕ) → outcomeOf r text (now (out .exit)) (now (marks .exit)) ≡ finish n (walk f (setRule f) (laySet f) (record { out = now (out .entry); marks = now (marks .entry); tally = t }) (now (file .entry)) n)) ⌝ }
+    requires { ⌜ roomFor n ≤ length (now text) ⌝ }
+    ensures { λ r. ⌜ outcomeOf r (now (text .exit)) (now (out .exit)) (now (marks .exit)) ≡ finish n (walk f (setRule f) (laySet f) (record { out = now (out .entry); marks = now (marks .entry); tally = t }) (now (file .entry)) n) ⌝ }
 {
-    let mut text = [0u8; Sets::ROOM];
     let mut w = Pass {
         refusal: Refusal::NONE,
         sets: Sets::NONE,
@@ -166,7 +168,7 @@ pub(crate) fn check_all(
             return w;
         }
         let bytes = block::bytes_at(file, k);
-        w = check_block(f, k as u64, bytes, &mut text, out, marks, w);
+        w = check_block(f, k as u64, bytes, text, out, marks, w);
         k += 1;
     }
     w.finished(n as u64)

@@ -16,25 +16,20 @@ use Rattle.meaning.specs.Blocks.{isComment}
 use Rattle.meaning.specs.Walk.{setRule}
 use Rattle.meaning.specs.Document.{Paragraph, writeParagraph, paragraphLooks, documentLooks}
 use Rattle.meaning.proofs.ListLaws.{join-append}
-use Rattle.output.specs.Output.{stored, past}
 use Rattle.output.proofs.Laws.{wrote-length}
 use Rattle.text.specs.declared.Tally.{Tally}
-use Rattle.text.specs.Laid.{Laid, markedWith}
+use Rattle.text.specs.Laid.{Laid}
 use Rattle.text.proofs.Laws.{_then_}
 use Rattle.document.specs.Parts.{paragraphFor, ParagraphLaid}
 use Rattle.sets.specs.declared.Set.{Set}
 use Rattle.sets.specs.Assembling.{setOf, setWith}
-use Rattle.closed.specs.Body.{Body, laid, paragraphsFor, laySet}
+use Rattle.closed.specs.Body.{Body, laid, laySet}
 
 bodies :
     {out out′ : List ℕ} {marks marks′ : List Bool} {at at′ spans spans′ : ℕ} → out ≡ out′ → marks ≡ marks′ → at ≡ at′ → spans ≡ spans′
     → _≡_ {A = Body} (record { out = out; marks = marks; tally = record { at = at; spans = spans } })
     (record { out = out′; marks = marks′; tally = record { at = at′; spans = spans′ } })
 bodies e f g h = rw (e, f, g, h)
-
-pub laid-none : (p : Body) → p .tally .at < 2 ^ 64 → p .tally .spans < 2 ^ 64 → p ≡ laid [] p
-unfolding laid flatMap documentLooks stored markedWith past
-laid-none p h i = bodies refl refl (omega arith) (omega arith)
 
 -- a body is what is laid on another
 pub is-laid :
@@ -74,13 +69,13 @@ module _ (f : Format) (s : Set) (text : List ℕ) {comment : Bool} (co : comment
   unfolding setRule setOf setWith field
   rule-subtitle e d g = rw (sym co, e) (g ∙ rw d)
 
-  pub lay-comment : (p : Body) → comment ≡ true → p .tally .at < 2 ^ 64 → p .tally .spans < 2 ^ 64 → p ≡ laySet f (setOf s text) p
-  unfolding laySet paragraphsFor setOf setWith
-  lay-comment p e h i = rw (sym co, e) (laid-none p h i)
+  pub lay-comment : (p : Body) → comment ≡ true → p ≡ laySet f (setOf s text) p
+  unfolding laySet setOf setWith
+  lay-comment p e = rw (sym co, e)
 
   pub lay-subtitle :
       {out out′ : List ℕ} {marks marks′ : List Bool} {t r : Tally} {part : List ℕ} → comment ≡ false → part ≡ field 0 (s .size) text
       → ParagraphLaid out marks t (paragraphFor f (s .first) part) out′ marks′ r
       → _≡_ {A = Body} (record { out = out′; marks = marks′; tally = r }) (laySet f (setOf s text) (record { out = out; marks = marks; tally = t }))
-  unfolding laySet paragraphsFor setOf setWith field
+  unfolding laySet setOf setWith field
   lay-subtitle e d l = rw (sym co, e, sym d) (is-laid _ (one _ l))

@@ -29,8 +29,5 @@ laid ps p =
     }
 
 -- the paragraph of a closed set; a comment has none
-unfoldable pub paragraphsFor : Format → BlockSet → List Paragraph
-paragraphsFor f s = cond (isComment (s .first)) [] (paragraphFor f (s .first) (s .text) ∷ [])
-
 unfoldable pub laySet : Format → BlockSet → Body → Body
-laySet f s p = laid (paragraphsFor f s) p
+laySet f s p = cond (isComment (s .first)) p (laid (paragraphFor f (s .first) (s .text) ∷ []) p)

@@ -4,10 +4,9 @@ use Prim.Native.Nat.{ℕ, _≤_, _<_, _^_}
 use native.Mathlib.Omega.{arith}
 use mathlib.Core.Path.{_≡_, refl, sym, ap, _∙_}
 use mathlib.Core.Bool.{Bool, true, false}
-use mathlib.Core.List.{List, [], _∷_, _++_, map, map-append, append-assoc, flatMap}
-use lib.Dec.{leb}
-use lib.ListN.{length, replicate, length-append}
-use borrow.Author.Tests.{le-leb, lt-leb, leb-true}
+use mathlib.Core.List.{List, [], _++_, map, map-append, append-assoc, append-nil, flatMap}
+use lib.ListN.{length, length-append}
+use borrow.Author.Tests.{le-leb, lt-leb}
 use Rattle.meaning.specs.declared.Refusal.{Refusal}
 use Rattle.meaning.specs.declared.Answer.{Answer}
 use Rattle.meaning.specs.declared.Header.{Header}
@@ -15,20 +14,18 @@ use Rattle.meaning.specs.declared.Format.{Format}
 use Rattle.meaning.specs.Refusals.{noRefusal, isGood}
 use Rattle.meaning.specs.Lists.{joined}
 use Rattle.meaning.specs.Gsi.{formatOf, blockCount, fileRule}
-use Rattle.meaning.specs.Looks.{lookCount}
 use Rattle.meaning.specs.Codes.{tokens}
 use Rattle.meaning.specs.Rows.{textRule}
 use Rattle.meaning.specs.Blocks.{isComment}
 use Rattle.meaning.specs.Sets.{BlockSet}
 use Rattle.meaning.specs.Walk.{Subtitle, Progress, Outcome, finish, walk, setRule, subtitleOf, subtitlesFrom, withSubtitles, outcome}
 use Rattle.meaning.specs.Walk.Outcome.{refused, accepted}
-use Rattle.meaning.specs.Document.{Paragraph, writeParagraph, documentLooks, render, documentSpans, afterParagraphs}
+use Rattle.meaning.specs.Document.{writeParagraph, documentLooks, render, documentSpans, afterParagraphs}
 use Rattle.meaning.specs.Conversion.{paragraphOf, documentOf, refusedAnswer, acceptedAnswer, answerBy, answerTo, answer, output}
 use Rattle.laws.specs.Demands.{FewestSpans}
 use Rattle.meaning.proofs.Logic.{by-test}
-use Rattle.meaning.proofs.ListLaws.{Any, any-blocks}
 use Rattle.laws.proofs.Gathering.{mapped, finish-mapped, walk-mapped, refused-not, finish-accepted}
-use Rattle.laws.proofs.Accepted.{Accepted, accepted-file, rule-kept}
+use Rattle.laws.proofs.Accepted.{taken, rule-kept}
 use Rattle.laws.proofs.Refused.{refusal-bad, refused-untouched}
 use Rattle.laws.proofs.Bounds.{document-bound, spans-bound}
 use Rattle.laws.proofs.OwnProfile.{Bytes}
@@ -36,16 +33,18 @@ use Rattle.laws.proofs.Demand3.{fewest-spans}
 use Rattle.output.specs.Output.{past, Wrote}
 use Rattle.output.proofs.Laws.{_⨟_, wrote-length, wrote-placed, wrote-as}
 use Rattle.styles.specs.declared.Marks.{Marks}
+use Rattle.text.specs.Laid.{Laid}
+use Rattle.text.proofs.Laws.{laid-nothing}
 use Rattle.text.proofs.Content.{content-whole}
 use Rattle.document.specs.Parts.{headOf, paragraphFor}
 use Rattle.text.specs.declared.Tally.{Tally}
 use Rattle.checking.specs.declared.Checked.{Checked}
-use Rattle.closed.specs.Body.{Body, laid, paragraphsFor, laySet}
+use Rattle.closed.specs.Body.{Body, laid, laySet}
 use Rattle.checking.specs.Passing.{emptyBody, checkedOf}
 use Rattle.writing.specs.Laying.{Laying, layBlocks}
 use Rattle.convert.specs.Telling.{marksOf, measured, answerOf}
 use Rattle.meaning.proofs.RefusalLaws.{good-number, bad-number}
-use Rattle.closed.proofs.Laying.{laid-none, laid-append}
+use Rattle.closed.proofs.Laying.{is-laid, laid-append}
 use Rattle.writing.proofs.Laws.{walk-lays}
 use Rattle.convert.proofs.Marking.{looks-right}
 
@@ -55,36 +54,30 @@ paragraph-whole :
 unfolding paragraphFor paragraphOf subtitleOf
 paragraph-whole f place h text e = rw (content-whole f place (h .vp) text e)
 
--- what is laid for a set within the rules are the paragraphs of its subtitles
-paragraphs-whole : (f : Format) (s : BlockSet) → isGood (setRule f s) ≡ true → paragraphsFor f s ≡ map (paragraphOf f) (subtitlesFrom f s)
-unfolding setRule paragraphsFor subtitlesFrom
-paragraphs-whole f s e =
-    by-test (isComment (s .first))
-    (λ c. rw c)
-    (λ c. rw c (ap (λ (p : Paragraph). p ∷ []) (paragraph-whole f (s .place) (s .first) (s .text) (rw c at e))))
-
 -- what is laid for subtitles, from a body on
 unfoldable bodyOf : Format → Body → List Subtitle → Body
 bodyOf f p ss = laid (map (paragraphOf f) ss) p
 
--- a body that paragraphs can be laid on
-record Sound (p : Body) : Type 0 where
-  room : length (p .out) < 2 ^ 64
-  at : p .tally .at < 2 ^ 64
-  spans : p .tally .spans < 2 ^ 64
+-- a body that nothing laid leaves as it is
+abbrev Here : Body → Type 0
+Here p = Laid (p .out) (p .marks) (p .tally) [] [] (p .out) (p .marks) (p .tally)
 
-module _ (f : Format) (p : Body) (h : Sound p) where
+module _ (f : Format) (p : Body) (h : Here p) where
+  -- what is laid for a set within the rules are the paragraphs of its subtitles
   alike : (s : BlockSet) (ss : List Subtitle) → isGood (setRule f s) ≡ true → bodyOf f p (withSubtitles f s ss) ≡ laySet f s (bodyOf f p ss)
-  unfolding bodyOf withSubtitles laySet
+  unfolding bodyOf withSubtitles subtitlesFrom setRule laySet
   alike s ss e =
-      rw (map-append (paragraphOf f) ss (subtitlesFrom f s), paragraphs-whole f s e)
-      (laid-append (map (paragraphOf f) ss) (map (paragraphOf f) (subtitlesFrom f s)) p (h .room))
+      by-test (isComment (s .first))
+      (λ c. rw (c, append-nil ss))
+      (λ c.
+      rw (c, map-append (paragraphOf f) ss, paragraph-whole f (s .place) (s .first) (s .text) (rw c at e))
+      (laid-append (map (paragraphOf f) ss) _ p (h .wrote .room)))
 
   -- a walk that lays, by the one that gathers subtitles
   walk-laid : (file : List ℕ) (n : ℕ) → walk f (setRule f) (laySet f) p file n ≡ mapped (bodyOf f p) (walk f (setRule f) (withSubtitles f) [] file n)
-  unfolding bodyOf
+  unfolding bodyOf flatMap documentLooks
   walk-laid file n =
-      ap (λ (q : Body). walk f (setRule f) (laySet f) q file n) (laid-none p (h .at) (h .spans))
+      ap (λ (q : Body). walk f (setRule f) (laySet f) q file n) (is-laid [] h)
       ∙ sym (walk-mapped (bodyOf f p) f (setRule f) (withSubtitles f) (laySet f) alike [] file n)
 
 -- the document in three parts: head, paragraphs, tail
@@ -118,7 +111,7 @@ module _ (mode : ℕ) (file : List ℕ) where
 
   -- a walk that lays, by the outcome of a file that keeps the rules 1 to 6
   outcome-laid :
-      (p : Body) → Sound p → isGood (fileRule mode file) ≡ true
+      (p : Body) → Here p → isGood (fileRule mode file) ≡ true
       → (let f = formatOf mode file in finish (blockCount file) (walk f (setRule f) (laySet f) p file (blockCount file))) ≡ mapped (bodyOf (formatOf mode file) p) (outcome mode file)
   unfolding outcome
   outcome-laid p h e = rw (walk-laid (formatOf mode file) p h file (blockCount file), e, outcome) (sym (finish-mapped _ (blockCount file) _))
@@ -133,15 +126,15 @@ module _ (mode : ℕ) (file : List ℕ) where
       ∙ ap (answerBy room (p .counts) (length (render (documentOf (formatOf mode file) (p .gathered))))) (spans-right p c)
 
   -- pass one
-  abbrev Known : ℕ → Answer → Marks → Type 0
-  Known room a marks =
+  abbrev Answered : ℕ → Answer → Marks → Type 0
+  Answered room a marks =
       (a ≡ answer mode file room)
       × ((p : Progress (List Subtitle)) → outcome mode file ≡ accepted p → marks .on ≡ marksOf (formatOf mode file) (p .gathered))
 
   module _ {rule : Refusal} (e : rule ≡ fileRule mode file) where
-    pub known-rule : (room : ℕ) {a : Answer} (marks : Marks) → (rule .number ≡ 0 → ⊥) → a ≡ refusedAnswer rule 0 → Known room a marks
+    pub answered-rule : (room : ℕ) {a : Answer} (marks : Marks) → (rule .number ≡ 0 → ⊥) → a ≡ refusedAnswer rule 0 → Answered room a marks
     unfolding outcome answer answerTo
-    known-rule room marks z d =
+    answered-rule room marks z d =
         let b : isGood (fileRule mode file) ≡ false = rw (sym e) (bad-number rule z) in
         let o : outcome mode file ≡ refused rule = rw (b, outcome) (ap refused (sym e)) in
         (d ∙ rw o, λ p c. absurd (refused-not (sym o ∙ c)))
@@ -150,12 +143,12 @@ module _ (mode : ℕ) (file : List ℕ) where
       good : isGood (fileRule mode file) ≡ true
       good = rw (sym e) (good-number rule z)
 
-      pub known-walk :
+      pub answered-walk :
           (room : ℕ) {a : Answer} {f : Format} {n : ℕ} (c : Checked) → f ≡ formatOf mode file → n ≡ blockCount file
-          → c ≡ checkedOf (finish n (walk f (setRule f) (laySet f) emptyBody file n)) → a ≡ answerOf f room c → Known room a (c .marks)
+          → c ≡ checkedOf (finish n (walk f (setRule f) (laySet f) emptyBody file n)) → a ≡ answerOf f room c → Answered room a (c .marks)
       unfolding answer checkedOf mapped bodyOf laid marksOf
-      known-walk room c g b s d =
-          let h : Sound emptyBody = record { room = omega arith; at = omega arith; spans = omega arith } in
+      answered-walk room c g b s d =
+          let h : Here emptyBody = laid-nothing _ _ _ (omega arith) (omega arith) (omega arith) in
           let x : c ≡ checkedOf (mapped (bodyOf (formatOf mode file) emptyBody) (outcome mode file)) = s ∙ rw (g, b) (ap checkedOf (outcome-laid emptyBody h good)) in (
             d ∙ rw (x, g) (answer-right room (outcome mode file) refl),
             λ p o. ap (λ (k : Checked). k .marks .on) x ∙ rw o,
@@ -173,12 +166,12 @@ module _ (mode : ℕ) (file : List ℕ) where
   document-written {f} {n} {at} {b1 = b1} {b2} on on′ t g b w1 l s w3 p c m =
       let r = formatOf mode file in
       let body : Body = record { out = b1; marks = on; tally = record { at = at; spans = 0 } } in
-      let h : Sound body = record { room = omega (arith, w1 .room, wrote-length w1); at = l; spans = omega arith } in
+      let h : Here body = laid-nothing _ _ _ (omega (arith, w1 .room, wrote-length w1)) l (omega arith) in
       let z : finish (blockCount file) (walk r (setRule r) (laySet r) body file (blockCount file)) ≡ mapped (bodyOf r body) (accepted p) =
       outcome-laid mode file body h (rule-kept mode file p c) ∙ ap (mapped (bodyOf r body)) c in
       let y = (rw (g, b) at s) ∙ ap (λ (q : Laying). q .body) (walk-lays r (setRule r) file body (blockCount file) _ (finish-accepted (blockCount file) _ _ z)) in
       let w2 : Wrote b1 at (flatMap writeParagraph (map (paragraphOf r) (p .gathered))) b2 (t .at) =
-      record { held = ap (λ (q : Body). q .out) y; next = ap (λ (q : Body). q .tally .at) y; room = h .room } in
+      record { held = ap (λ (q : Body). q .out) y; next = ap (λ (q : Body). q .tally .at) y; room = h .wrote .room } in
       wrote-as (document-parts r (p .gathered) m) ((rw g at w1) ⨟ w2 ⨟ w3)
 
 -- the answer by what pass one told
@@ -215,18 +208,12 @@ module _ (mode : ℕ) (file buf : List ℕ) {r : Answer} (e : r ≡ answer mode 
       answered : answer mode file (length buf) .number ≡ 0
       answered = ap (λ (a : Answer). a .number) (sym e) ∙ z
 
-      taken : Accepted Any mode file (any-blocks _) buf
-      taken = accepted-file Any mode file (any-blocks _) buf answered
-
       pub right-written :
           {out : List ℕ} {last : ℕ} {marks : Marks}
           → ((p : Progress (List Subtitle)) → outcome mode file ≡ accepted p → marks .on ≡ marksOf (formatOf mode file) (p .gathered))
           → ((p : Progress (List Subtitle)) → outcome mode file ≡ accepted p → marks .on ≡ marksOf (formatOf mode file) (p .gathered)
           → Wrote buf 0 (render (documentOf (formatOf mode file) (p .gathered))) out last)
           → Right out
-      unfolding answer answerTo answerBy refusedAnswer
       right-written m w =
-          let t = taken in
-          by-test (leb (length (render (documentOf (formatOf mode file) (t .progress .gathered)))) (length buf))
-          (λ f. right (wrote-placed (w (t .progress) (t .came) (m (t .progress) (t .came))) (leb-true _ _ f) ∙ sym (t .written)))
-          (λ f. let y : _≡_ {A = ℕ} 16 0 = rw (t .came, answerTo, f, answerBy) at answered in absurd (omega arith))
+          let t = taken mode file buf answered in
+          right (wrote-placed (w (t .progress) (t .came) (m (t .progress) (t .came))) (t .fits) ∙ sym (t .written))

@@ -18,7 +18,6 @@ use Rattle.styles.specs.Styles.{looksMarked}
 use Rattle.styles.proofs.Laws.{marked-used}
 use Rattle.text.specs.Laid.{markedWith}
 
--- a mark is set exactly if a span has its look
 any-none : {A : Type 0} (p : A → Bool) → any p [] ≡ false
 unfolding any
 any-none p = refl
@@ -31,6 +30,7 @@ set-mark on j k h =
     rw (e, q) (getD-set-same on k true false h ∙ sym (or-true-right (getD on k false) true refl)))
     (λ e. rw e (getD-set-other on j k true false (eqb-false k j e) ∙ sym (or-false (getD on k false))))
 
+-- a mark is set exactly if a span has its look
 marked-at : (on : List Bool) (ls : List ℕ) (k : ℕ) → k < length on → getD (markedWith on ls) k false ≡ (getD on k false || any (eqb k) ls)
 unfolding markedWith
 marked-at on [] k h = rw (any-none (eqb k)) (sym (or-false (getD on k false)))

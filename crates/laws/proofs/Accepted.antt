@@ -1,14 +1,14 @@
 -- What an answer of 0 says of the file: the walk accepted it, the document fits, and the counts are those of its blocks.
 -- Assumes nothing.
-use Prim.Native.Nat.{ℕ, _+_}
+use Prim.Native.Nat.{ℕ, _+_, _≤_}
 use native.Mathlib.Omega.{arith}
-use mathlib.Core.Path.{_≡_, refl, sym, ap, _∙_}
+use mathlib.Core.Path.{_≡_, refl, sym, ap, subst, _∙_}
 use mathlib.Core.Bool.{true, false}
 use mathlib.Core.List.{List, [], _++_}
 use lib.Dec.{leb}
-use lib.ListN.{length, take, drop}
+use lib.ListN.{length, take, drop, replicate, length-replicate}
 use lib.Seq.{take-at}
-use borrow.Author.Tests.{eqb-true, eqb-false}
+use borrow.Author.Tests.{leb-true, eqb-true, eqb-false}
 use Rattle.meaning.specs.declared.Answer.{Answer}
 use Rattle.meaning.specs.Lists.{all}
 use Rattle.meaning.specs.Gsi.{rateOf, isRate, formatOf, blockCount, isDigit, tnbField, tnb, fileRule}
@@ -48,6 +48,7 @@ module _ (Block : List ℕ → Type 0) (mode : ℕ) (file : List ℕ) (blocked :
     pub written :
         output mode file buffer
         ≡ render (documentOf (formatOf mode file) (progress .gathered)) ++ drop (length (render (documentOf (formatOf mode file) (progress .gathered)))) buffer
+    pub fits : length (render (documentOf (formatOf mode file) (progress .gathered))) ≤ length buffer
 
   -- an answer of 0 to an outcome
   accepted-by :
@@ -57,7 +58,7 @@ module _ (Block : List ℕ → Type 0) (mode : ℕ) (file : List ℕ) (blocked :
   accepted-by buffer (refused r) c h e = absurd (eqb-false (r .number) 0 (h .bad) e)
   accepted-by buffer (accepted p) c h e =
       by-test (leb (length (render (documentOf (formatOf mode file) (p .gathered)))) (length buffer))
-      (λ f. record { progress = p; came = c; held = h; answered = rw (c, answerTo, answerBy, f); written = rw (c, bufferAfter, f) })
+      (λ f. record { progress = p; came = c; held = h; answered = rw (c, answerTo, answerBy, f); written = rw (c, bufferAfter, f); fits = leb-true _ _ f })
       (λ f. let z : _≡_ {A = ℕ} 16 0 = rw (f, answerBy, answerTo) at e in absurd (omega arith))
 
   pub accepted-file : (buffer : List ℕ) → answer mode file (length buffer) .number ≡ 0 → Accepted buffer
@@ -84,7 +85,7 @@ module _ (mode : ℕ) (file : List ℕ) where
       let r₂ = unbroken _ _ _ _ (r₁ .1) in
       unbroken _ _ _ _ (r₂ .1) .0
 
-  pub tnb-right : isGood (fileRule mode file) ≡ true → tnb file ≡ blockCount file
+  pub tnb-right : isGood (fileRule mode file) ≡ true → (all isDigit (tnbField file) ≡ true) × (tnb file ≡ blockCount file)
   unfolding fileRule
   tnb-right e =
       let r₁ = unbroken _ _ _ _ e in
@@ -92,7 +93,8 @@ module _ (mode : ℕ) (file : List ℕ) where
       let r₃ = unbroken _ _ _ _ (r₂ .1) in
       let r₄ = unbroken _ _ _ _ (r₃ .1) in
       let r₅ = unbroken _ _ _ _ (r₄ .1) in
-      eqb-true (tnb file) (blockCount file) (and-parts (all isDigit (tnbField file)) _ (unbroken _ _ _ _ (r₅ .1) .0) .1)
+      let d = and-parts (all isDigit (tnbField file)) _ (unbroken _ _ _ _ (r₅ .1) .0) in
+      (d .0, eqb-true (tnb file) (blockCount file) (d .1))
 
   counts-all : (p : Progress (List Subtitle)) → outcome mode file ≡ accepted p → total (p .counts) ≡ blockCount file
   counts-all p c =
@@ -101,7 +103,7 @@ module _ (mode : ℕ) (file : List ℕ) where
       w .counts
 
   module _ (buffer : List ℕ) (e : answer mode file (length buffer) .number ≡ 0) where
-    taken : Accepted Any mode file (any-blocks _) buffer
+    pub taken : Accepted Any mode file (any-blocks _) buffer
     taken = accepted-file Any mode file (any-blocks _) buffer e
 
     -- the first four counts add up to the blocks of the file, and to TNB
@@ -112,7 +114,7 @@ module _ (mode : ℕ) (file : List ℕ) where
 
     pub counts-are-tnb :
         (let a = answer mode file (length buffer) in a .subtitles + a .comments + a .continuations + a .users) ≡ tnb file
-    counts-are-tnb = counts-add-up ∙ sym (tnb-right (rule-kept (taken .progress) (taken .came)))
+    counts-are-tnb = counts-add-up ∙ sym (tnb-right (rule-kept (taken .progress) (taken .came)) .1)
 
 module _ {Block : List ℕ → Type 0} {mode : ℕ} {file : List ℕ} {h : All Block (blocks (blockCount file) (drop gsiSize file))} {buffer : List ℕ} (t : Accepted Block mode file h buffer) where
   -- the length is that of the document
@@ -124,3 +126,10 @@ module _ {Block : List ℕ → Type 0} {mode : ℕ} {file : List ℕ} {h : All B
   pub front-is-document :
       take (answer mode file (length buffer) .length) (output mode file buffer) ≡ render (documentOf (formatOf mode file) (t .progress .gathered))
   front-is-document = rw (length-is-document, t .written) (take-at _ _ _ refl)
+
+-- an answer of 0 tells a length that there is room for
+pub length-fits : (mode : ℕ) (file : List ℕ) (room : ℕ) {a : Answer} → a ≡ answer mode file room → a .number ≡ 0 → a .length ≤ room
+length-fits mode file room e z =
+    let l = length-replicate {A = ℕ} room 0 in
+    let t = taken mode file (replicate room 0) (rw (l, sym e) z) in
+    rw e (subst (λ (n : ℕ). answer mode file n .length ≤ n) l (rw (length-is-document t) (t .fits)))

@@ -38,10 +38,11 @@ total-counted inSet h c =
     (λ u. rw u (omega arith))
     (λ u. by-test inSet (λ i. rw (u, i) (omega arith)) (λ i. by-test (isComment h) (λ k. rw (u, i, k) (omega arith)) (λ k. rw (u, i, k) (omega arith))))
 
--- a set that can go on: its text is that of blocks 00h to its last
-pub record Short (s : BlockSet) : Type 0 where
+-- a set that can go on, after n blocks: its text is that of blocks 00h to its last, which are no more than n
+pub record Short (n : ℕ) (s : BlockSet) : Type 0 where
   pub size : length (s .text) ≤ textSize * suc (s .last)
   pub last : s .last < 240
+  pub few : s .last < n
 
 -- a set's first header: of one of the file's blocks, and within the rules 8 to 12
 pub record Opened (Block : List ℕ → Type 0) (f : Format) (first : Header) : Type 0 where
@@ -123,68 +124,74 @@ advance-tells f place b a =
 pub broken-bad : (f : Format) (place : ℕ) (b : List ℕ) (a : Assembly) {r : Refusal} → advance f place b a ≡ broken r → isGood r ≡ false
 broken-bad f place b a e = rw e at (advance-tells f place b a)
 
--- the set that stays open is short
-abbrev pub Bounded : Assembly → Type 0
-Bounded a = (s : BlockSet) → a .current ≡ some s → Short s
+-- the set that stays open after n blocks is short
+abbrev pub Bounded : ℕ → Assembly → Type 0
+Bounded n a = (s : BlockSet) → a .current ≡ some s → Short n s
 
-abbrev pub BoundedAfter : Event → Type 0
-BoundedAfter (broken r) = Unit {0}
-BoundedAfter (pending a) = Bounded a
-BoundedAfter (closed s a) = a .current ≡ none
+abbrev pub BoundedAfter : ℕ → Event → Type 0
+BoundedAfter n (broken r) = Unit {0}
+BoundedAfter n (pending a) = Bounded n a
+BoundedAfter n (closed s a) = a .current ≡ none
 
-last-fits : (s : BlockSet) (least : ℕ) → ((s .last ≡ 255 → ⊥) → Short s) → BoundedAfter (closeAtLast s least)
+pub bounded-more : {n : ℕ} (a : Assembly) → Bounded n a → Bounded (suc n) a
+bounded-more a h s g = let q = h s g in record { size = q .size; last = q .last; few = omega (arith, q .few) }
+
+last-fits : (n : ℕ) (s : BlockSet) (least : ℕ) → ((s .last ≡ 255 → ⊥) → Short n s) → BoundedAfter n (closeAtLast s least)
 unfolding closeAtLast
-last-fits s least h =
+last-fits n s least h =
     by-test (eqb (s .last) 255)
     (λ t. rw (t, closeAtLast) refl)
-    (λ t. rw (t, closeAtLast) (λ q g. (let z : s ≡ q = cc in subst Short z (h (eqb-false (s .last) 255 t)))))
+    (λ t. rw (t, closeAtLast) (λ q g. (let z : s ≡ q = cc in subst (Short n) z (h (eqb-false (s .last) 255 t)))))
 
+-- one block more: its place is the number of those before it
 module _ (f : Format) (place : ℕ) (b : List ℕ) where
-  opening-fits : (least : ℕ) → BoundedAfter (opening f place (headerOf b) (blockText b) least)
+  opening-fits : (least : ℕ) → BoundedAfter (suc place) (opening f place (headerOf b) (blockText b) least)
   unfolding opening
   opening-fits least =
-      by-rules BoundedAfter place _ _
+      by-rules (BoundedAfter (suc place)) place _ _
       (λ t.
-      last-fits _ _
+      last-fits _ _ _
       (λ n.
       let o = ⊎-elim (λ z. eqb-true (headerOf b .ebn) 0 z) (λ z. absurd (n (eqb-true (headerOf b .ebn) 255 z))) (or-parts _ _ (unbroken _ _ _ _ t .0)) in
-      record { size = omega (arith, text-short b); last = omega (arith, o) }))
+      record { size = omega (arith, text-short b); last = omega (arith, o); few = omega (arith, o) }))
       (λ t. tt)
 
-  continuing-fits : (least : ℕ) (s : BlockSet) → Short s → BoundedAfter (continuing place (headerOf b) (blockText b) s least)
+  continuing-fits : (least : ℕ) (s : BlockSet) → Short place s → BoundedAfter (suc place) (continuing place (headerOf b) (blockText b) s least)
   unfolding continuing goesOn
   continuing-fits least s h =
-      by-rules BoundedAfter place _ _
+      by-rules (BoundedAfter (suc place)) place _ _
       (λ t.
-      last-fits _ _
+      last-fits _ _ _
       (λ n.
       let o : (eqb (headerOf b .ebn) (suc (s .last)) ≡ true) × (ltb (headerOf b .ebn) 240 ≡ true) =
       ⊎-elim (λ z. absurd (n (eqb-true (headerOf b .ebn) 255 z))) (λ z. and-parts _ _ z) (or-parts _ _ (unbroken _ _ _ _ t .0))
       in
+      let next = eqb-true (headerOf b .ebn) (suc (s .last)) (o .0) in
       record {
-        size = simp length-append (omega (arith, text-short b, h .size, eqb-true (headerOf b .ebn) (suc (s .last)) (o .0)));
+        size = simp length-append (omega (arith, text-short b, h .size, next));
         last = ltb-true (headerOf b .ebn) 240 (o .1);
+        few = omega (arith, h .few, next);
       }))
       (λ t. tt)
 
-  pub advance-fits : (a : Assembly) → Bounded a → BoundedAfter (advance f place b a)
+  pub advance-fits : (a : Assembly) → Bounded place a → BoundedAfter (suc place) (advance f place b a)
   unfolding advance
   advance-fits a h =
       by-test (isUser (headerOf b))
-      (λ u. rw (u, advance) h)
+      (λ u. rw (u, advance) (bounded-more a h))
       (λ u. by-option (a .current) (λ g. rw (u, g, advance) (opening-fits (a .least))) (λ s g. rw (u, g, advance) (continuing-fits (a .least) s (h s g))))
 
 -- after n blocks, whatever is gathered: they are counted, and the set that is open is short
 pub record Within {A : Type 0} (n : ℕ) (p : Progress A) : Type 0 where
   pub counts : total (p .counts) ≡ n
-  pub fits : Bounded (p .assembly)
+  pub fits : Bounded n (p .assembly)
 
 abbrev pub WithinIf : {A : Type 0} → ℕ → Outcome A → Type 0
 WithinIf n (refused r) = Unit {0}
 WithinIf n (accepted p) = Within n p
 
 module _ {A : Type 0} (f : Format) (rule : BlockSet → Refusal) (add : BlockSet → A → A) where
-  judge-within : (n : ℕ) (c : Counts) (x : A) (e : Event) → total c ≡ n → BoundedAfter e → WithinIf n (judge f rule add c x e)
+  judge-within : (n : ℕ) (c : Counts) (x : A) (e : Event) → total c ≡ n → BoundedAfter n e → WithinIf n (judge f rule add c x e)
   unfolding judge
   judge-within n c x (broken r) t h = tt
   judge-within n c x (pending a) t h = record { counts = t; fits = h }

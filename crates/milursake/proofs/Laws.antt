@@ -1,4 +1,4 @@
--- Demand 3 of an answer that is told otherwise.
+-- Demand 3 of an equal answer.
 -- Assumes nothing.
 use Prim.Native.Nat.{ℕ}
 use mathlib.Core.Path.{_≡_, subst}

@@ -91,9 +91,6 @@ front-joined buf xs at h =
 front-kept : (buf xs : List ℕ) (at : ℕ) → at + length xs ≤ length buf → take at (stored buf at xs) ≡ take at buf
 front-kept buf xs at h = rw (stored-fits buf at xs h, append-assoc) (take-at (take at buf) _ _ (length-take-le at buf (omega arith)))
 
-pub same-event : {d e : Event} → some d ≡ some e → e ≡ d
-same-event z = cc
-
 -- an event of which the text buffer holds the texts is the one that its step brings
 module _ (n : ℕ) (text : List ℕ) where
   abbrev Brought : Event → Type 0
@@ -121,14 +118,15 @@ unfolding sizedCurrent sizedSet currentOf setOf setWith textEnd
 sized-current Between text = refl
 sized-current (Open s) text = refl
 
+sized-same : (s : Sets) (text : List ℕ) → sizedSets (textEnd (s .current)) (assemblyOf s text) ≡ s
+unfolding sizedSets assemblyOf
+sized-same s text = rw (sized-current (s .current) text)
+
+-- and stands for the same with a text behind it
 current-kept : (c : Current) (text part : List ℕ) → textEnd c + length part ≤ length text → currentOf c (stored text (textEnd c) part) ≡ currentOf c text
 unfolding currentOf setOf textEnd
 current-kept Between text part h = refl
 current-kept (Open s) text part h = rw (front-kept text part (s .size) h)
-
-sized-same : (s : Sets) (text : List ℕ) → sizedSets (textEnd (s .current)) (assemblyOf s text) ≡ s
-unfolding sizedSets assemblyOf
-sized-same s text = rw (sized-current (s .current) text)
 
 -- a block, by what is read of it and by the room for its text
 module _ (f : Format) (place : ℕ) (b : List ℕ) (s : Sets) (text : List ℕ) {h : Header} (hd : h ≡ headerOf b) {user : Bool} (us : user ≡ isUser h) where
@@ -181,29 +179,30 @@ module _ (f : Format) (place : ℕ) (b : List ℕ) (s : Sets) (text : List ℕ) 
       on-next {c} e r g = told r (g (take (c .size) text) part ∙ rw (other, advance, e, hd, pt))
 
 -- where there is room, the step brings what the block brings
-module _ (f : Format) (place : ℕ) (b : List ℕ) (s : Sets) (text : List ℕ) where
-  room : hasRoom b s text ≡ true → isUser (headerOf b) ≡ false → textEnd (s .current) + length (blockText b) ≤ length text
+module _ (f : Format) (place : ℕ) (b : List ℕ) (s : Sets) (text : List ℕ) (h : hasRoom b s text ≡ true) where
+  room : isUser (headerOf b) ≡ false → textEnd (s .current) + length (blockText b) ≤ length text
   unfolding hasRoom
-  room h u = leb-true _ _ (rw u at h)
+  room u = leb-true _ _ (rw u at h)
 
   brought :
       (c : Current) → s .current ≡ c → textEnd c + length (blockText b) ≤ length text → isUser (headerOf b) ≡ false
       → Brought (textEnd c + length (blockText b)) (stored text (textEnd c) (blockText b)) (advance f place b (assemblyOf s text))
   unfolding advance assemblyOf currentOf setOf setWith textEnd
-  brought Between e h u = rw (u, advance, e) (brought-opening _ _ _ _ _ _ _ (sym (front-joined text (blockText b) 0 h)))
-  brought (Open c) e h u = rw (u, advance, e) (brought-continuing _ _ _ _ _ _ _ (sym (front-joined text (blockText b) (c .size) h)))
+  brought Between e l u = rw (u, advance, e) (brought-opening _ _ _ _ _ _ _ (sym (front-joined text (blockText b) 0 l)))
+  brought (Open c) e l u = rw (u, advance, e) (brought-continuing _ _ _ _ _ _ _ (sym (front-joined text (blockText b) (c .size) l)))
 
-  pub step-event : hasRoom b s text ≡ true → eventOf (stepIn f place b s text) (textAfter b s text) ≡ some (advance f place b (assemblyOf s text))
-  unfolding stepIn sizeAfter textAfter advance stepOf eventOf
-  step-event h =
-      by-test (isUser (headerOf b))
-      (λ u. rw (h, u, advance, sized-same s text))
-      (λ u. rw (h, u) (brought (s .current) refl (room h u) u))
+  module _ {r : Step} {text′ : List ℕ} (t : (r ≡ stepIn f place b s text) × (text′ ≡ textAfter b s text)) where
+    pub step-event : some (advance f place b (assemblyOf s text)) ≡ eventOf r text′
+    unfolding stepIn sizeAfter textAfter advance stepOf eventOf
+    step-event =
+        by-test (isUser (headerOf b))
+        (λ u. rw (t .0, t .1, h, u, advance, sized-same s text))
+        (λ u. rw (t .0, t .1, h, u) (sym (brought (s .current) refl (room u) u)))
 
-  -- the state stands for the same with the block's text behind it
-  pub text-kept : hasRoom b s text ≡ true → assemblyOf s (textAfter b s text) ≡ assemblyOf s text
-  unfolding assemblyOf textAfter
-  text-kept h =
-      by-test (isUser (headerOf b))
-      (λ u. rw (h, u))
-      (λ u. rw (h, u, current-kept (s .current) text (blockText b) (room h u)))
+    -- the state stands for the same with the block's text behind it
+    pub text-kept : assemblyOf s text′ ≡ assemblyOf s text
+    unfolding assemblyOf textAfter
+    text-kept =
+        by-test (isUser (headerOf b))
+        (λ u. rw (t .1, h, u))
+        (λ u. rw (t .1, h, u, current-kept (s .current) text (blockText b) (room u)))

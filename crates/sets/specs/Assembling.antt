@@ -1,14 +1,14 @@
 -- What the state of the assembly stands for, with the text buffer, and the step that a block makes.
 -- Assumes nothing.
-use Prim.Native.Nat.{ℕ, _+_}
+use Prim.Native.Nat.{ℕ, _+_, _*_, min}
 use mathlib.Core.Bool.{Bool, cond, not, _&&_, _||_}
 use mathlib.Core.List.{List}
 use mathlib.Core.Option.{Option, none, some}
 use lib.Dec.{leb}
 use lib.ListN.{length, take}
 use Rattle.meaning.specs.declared.Format.{Format}
-use Rattle.meaning.specs.Blocks.{headerOf, blockText}
-use Rattle.meaning.specs.Sets.{BlockSet, Assembly, Event, isUser, advance}
+use Rattle.meaning.specs.Blocks.{textSize, headerOf, blockText}
+use Rattle.meaning.specs.Sets.{BlockSet, Assembly, Event, numberedBlocks, isUser, advance}
 use Rattle.meaning.specs.Sets.Event.{broken, pending, closed}
 use Rattle.output.specs.Output.{stored}
 use Rattle.sets.specs.declared.Set.{Set}
@@ -48,6 +48,10 @@ textEnd (Open s) = s .size
 -- a text buffer has room for a block's text; user data needs none
 unfoldable pub hasRoom : List ℕ → Sets → List ℕ → Bool
 hasRoom b s text = isUser (headerOf b) || leb (textEnd (s .current) + length (blockText b)) (length text)
+
+-- the room that is enough for n blocks: no set has more than the numbered blocks and the last
+abbrev pub roomFor : ℕ → ℕ
+roomFor n = min n (numberedBlocks + 1) * textSize
 
 -- the size of the text with a block's text; user data adds nothing
 unfoldable pub sizeAfter : List ℕ → Sets → ℕ

@@ -41,6 +41,11 @@ impl Sets {
     // The longest text: that of 240 numbered blocks and the last.
     pub const ROOM: usize = (NUMBERED + 1) * TEXT_SIZE;
 
+    // A file of few blocks needs less room, which takes less time to clear.
+    pub const FEW: usize = 16;
+
+    pub const FEW_ROOM: usize = Sets::FEW * TEXT_SIZE;
+
     // Before the first block.
     pub const NONE: Sets = Sets {
         least: 0,

@@ -4,9 +4,9 @@ use Prim.Native.Nat.{ℕ, zero, suc, _+_, _≤_, _<_}
 use native.Mathlib.Omega.{arith}
 use native.Mathlib.Numerals.{add-one}
 use mathlib.Core.Path.{_≡_, refl, sym, ap, _∙_}
-use mathlib.Core.Bool.{Bool, true, false}
+use mathlib.Core.Bool.{Bool, true}
 use mathlib.Core.List.{List}
-use mathlib.Core.Option.{some}
+use mathlib.Core.Option.{some, Option·some-injective}
 use lib.ListN.{length}
 use Rattle.meaning.specs.declared.Refusal.{Refusal}
 use Rattle.meaning.specs.declared.Counts.{Counts}
@@ -20,16 +20,16 @@ use Rattle.meaning.specs.Walk.Outcome.{refused, accepted}
 use Rattle.meaning.proofs.Logic.{by-test, none-not-some}
 use Rattle.laws.proofs.Steps.{walk-more}
 use Rattle.laws.proofs.Gathering.{refused-not}
-use Rattle.laws.proofs.Walk.{Bounded, BoundedAfter, advance-fits}
+use Rattle.laws.proofs.Walk.{Bounded, BoundedAfter, bounded-more, advance-fits}
 use Rattle.text.specs.declared.Tally.{Tally}
 use Rattle.sets.specs.declared.Set.{Set}
 use Rattle.sets.specs.declared.Current.the-variants.{Between}
 use Rattle.sets.specs.declared.Sets.{Sets}
 use Rattle.sets.specs.declared.Step.{Step}
 use Rattle.sets.specs.declared.Step.the-variants.{NoRoom, Broken, Pending, Closed}
-use Rattle.sets.specs.Assembling.{setOf, currentOf, assemblyOf, eventOf, hasRoom, stepIn, textAfter}
-use Rattle.sets.proofs.Laws.{same-event, step-event, text-kept}
-use Rattle.sets.proofs.Rooms.{textRoom, room-left}
+use Rattle.sets.specs.Assembling.{setOf, currentOf, assemblyOf, eventOf, hasRoom, roomFor, stepIn, textAfter}
+use Rattle.sets.proofs.Laws.{step-event, text-kept}
+use Rattle.sets.proofs.Rooms.{room-left}
 use Rattle.writing.specs.declared.Writing.{Writing}
 use Rattle.closed.specs.Body.{Body, laySet}
 use Rattle.writing.specs.Laying.{Laying, layEvent, layBlocks, layingOf}
@@ -40,20 +40,20 @@ module _ (f : Format) (place : ℕ) (b : List ℕ) (w : Writing) (text out : Lis
   abbrev Stepped : Laying → Type 0
   Stepped l = l ≡ layEvent f (layingOf w text out marks) (advance f place b (assemblyOf (w .sets) text))
 
-  event : eventOf st text′ ≡ some (advance f place b (assemblyOf (w .sets) text))
-  event = rw (m .0, m .1) (step-event f place b (w .sets) text room)
+  event : some (advance f place b (assemblyOf (w .sets) text)) ≡ eventOf st text′
+  event = step-event f place b (w .sets) text room m
 
   pub on-full : st ≡ NoRoom → Stepped (layingOf w text′ out marks)
   unfolding eventOf
-  on-full e = absurd (none-not-some (rw e at event))
+  on-full e = absurd (none-not-some (sym (rw e at event)))
 
   pub on-broken : {q : Refusal} → st ≡ Broken q → Stepped (layingOf w text′ out marks)
   unfolding eventOf layEvent layingOf
-  on-broken e = rw (same-event (rw e at event), m .1, text-kept f place b (w .sets) text room)
+  on-broken e = rw (Option·some-injective _ _ (rw e at event), text-kept f place b (w .sets) text room m)
 
   pub on-pending : {s : Sets} → st ≡ Pending s → Stepped (layingOf (record { sets = s; tally = w .tally }) text′ out marks)
   unfolding eventOf layEvent layingOf
-  on-pending e = rw (same-event (rw e at event))
+  on-pending e = rw (Option·some-injective _ _ (rw e at event))
 
   pub on-closed :
       {set : Set} {s : Sets} → st ≡ Closed set s → {out′ : List ℕ} {marks′ : List Bool} {u : Tally}
@@ -61,42 +61,42 @@ module _ (f : Format) (place : ℕ) (b : List ℕ) (w : Writing) (text out : Lis
       → Stepped (layingOf (record { sets = s; tally = u }) text′ out′ marks′)
   unfolding eventOf layEvent layingOf
   on-closed {s = s} e l =
-      rw (same-event (rw e at event)) (ap (λ (p : Body). record { assembly = assemblyOf s text′; body = p }) l)
+      rw (Option·some-injective _ _ (rw e at event)) (ap (λ (p : Body). record { assembly = assemblyOf s text′; body = p }) l)
 
 module _ (f : Format) (file : List ℕ) (body : Body) where
   -- the set that is open is short
-  event-fits : (l : Laying) (e : Event) → Bounded (l .assembly) → BoundedAfter e → Bounded (layEvent f l e .assembly)
+  event-fits : (k : ℕ) (l : Laying) (e : Event) → Bounded k (l .assembly) → BoundedAfter (suc k) e → Bounded (suc k) (layEvent f l e .assembly)
   unfolding layEvent
-  event-fits l (broken r) h g = h
-  event-fits l (pending a) h g = g
-  event-fits l (closed s a) h g = λ q z. absurd (none-not-some (sym g ∙ z))
+  event-fits k l (broken r) h g = bounded-more (l .assembly) h
+  event-fits k l (pending a) h g = g
+  event-fits k l (closed s a) h g = λ q z. absurd (none-not-some (sym g ∙ z))
 
-  laying-fits : (k : ℕ) → Bounded (layBlocks f file body k .assembly)
+  laying-fits : (k : ℕ) → Bounded k (layBlocks f file body k .assembly)
   unfolding layBlocks noBlocks
   laying-fits zero = λ q z. absurd (none-not-some z)
   laying-fits (suc k) =
       let h = laying-fits k in
-      event-fits (layBlocks f file body k) _ h (advance-fits f k (blockAt file k) _ h)
+      event-fits k (layBlocks f file body k) _ h (advance-fits f k (blockAt file k) _ h)
 
-  -- after k of n blocks
-  module _ (n : ℕ) where
+  -- after k of n blocks, with a text buffer of some size
+  module _ (n room : ℕ) where
     pub record Written (text out : List ℕ) (marks : List Bool) (w : Writing) (k : ℕ) : Type 0 where
       pub few : k ≤ n
-      pub long : length text ≡ textRoom
+      pub long : length text ≡ room
       pub same : length out ≡ length (body .out)
       pub marked : length marks ≡ length (body .marks)
       pub stands : layingOf w text out marks ≡ layBlocks f file body k
 
     pub written-none :
-        (text : List ℕ) → length text ≡ textRoom
+        (text : List ℕ) → length text ≡ room
         → Written text (body .out) (body .marks) (record { sets = record { least = 0; current = Between }; tally = body .tally }) 0
     unfolding layBlocks layingOf noBlocks assemblyOf currentOf
     written-none text l = record { few = omega arith; long = l; same = refl; marked = refl; stands = refl }
 
     module _ {text out : List ℕ} {marks : List Bool} {w : Writing} {k : ℕ} (l : Written text out marks w k) where
-      pub written-ready : (b : List ℕ) → hasRoom b (w .sets) text ≡ true
+      pub written-ready : (b : List ℕ) → roomFor n ≤ room → k < n → hasRoom b (w .sets) text ≡ true
       unfolding layingOf
-      written-ready b = room-left b (w .sets) text (l .long) (rw (sym (l .stands)) at (laying-fits k))
+      written-ready b r h = room-left k text (omega (arith, l .long)) b (w .sets) (rw (sym (l .stands)) at (laying-fits k))
 
       pub written-more :
           {b text′ out′ : List ℕ} {marks′ : List Bool} {r : Writing} → k < n → b ≡ blockAt file k → length text′ ≡ length text

@@ -3,8 +3,10 @@
 
 ghost use mathlib.Core.Path.{_≡_};
 ghost use mathlib.Core.Bool.{true};
+ghost use Prim.Native.Nat.{_≤_};
+ghost use lib.ListN.{length};
 ghost use Rattle.meaning.specs.Sets.{advance};
-ghost use Rattle.sets.specs.Assembling.{assemblyOf, hasRoom};
+ghost use Rattle.sets.specs.Assembling.{assemblyOf, hasRoom, roomFor};
 ghost use Rattle.writing.specs.Laying.{layEvent, layBlocks, layingOf};
 use closed::lay;
 use meaning::Format;
@@ -43,6 +45,32 @@ fn write_block(
     }
 }
 
+// The first n blocks, with a text buffer that has room for their texts.
+fn write_all(
+    file: &[u8],
+    n: usize,
+    f: Format,
+    text: &mut [u8],
+    out: &mut [u8],
+    marks: &mut [bool],
+    t: Tally,
+) -> Tally
+    requires { ⌜ roomFor n ≤ length (now text) ⌝ }
+    ensures { λ r. ⌜ record { out = now (out .exit); marks = now (marks .exit); tally = r } ≡ layBlocks f (now (file .entry)) (record { out = now (out .entry); marks = now (marks .entry); tally = t }) n .body ⌝ }
+{
+    let mut w = Writing {
+        sets: Sets::NONE,
+        tally: t,
+    };
+    let mut k = 0;
+    while k < n {
+        let bytes = block::bytes_at(file, k);
+        w = write_block(f, k as u64, bytes, text, out, marks, w);
+        k += 1;
+    }
+    w.tally
+}
+
 // The first n blocks of any file.
 pub fn write_blocks(
     file: &[u8],
@@ -54,16 +82,10 @@ pub fn write_blocks(
 ) -> Tally
     ensures { λ r. ⌜ record { out = now (out .exit); marks = now (marks .exit); tally = r } ≡ layBlocks f (now (file .entry)) (record { out = now (out .entry); marks = now (marks .entry); tally = t }) n .body ⌝ }
 {
-    let mut text = [0u8; Sets::ROOM];
-    let mut w = Writing {
-        sets: Sets::NONE,
-        tally: t,
-    };
-    let mut k = 0;
-    while k < n {
-        let bytes = block::bytes_at(file, k);
-        w = write_block(f, k as u64, bytes, &mut text, out, marks, w);
-        k += 1;
+    if n <= Sets::FEW {
+        let mut text = [0u8; Sets::FEW_ROOM];
+        return write_all(file, n, f, &mut text, out, marks, t);
     }
-    w.tally
+    let mut text = [0u8; Sets::ROOM];
+    write_all(file, n, f, &mut text, out, marks, t)
 }

@@ -1,15 +1,12 @@
 -- `lay` lays the paragraph of a subtitle.
 -- Assumes nothing.
-use native.Mathlib.Omega.{arith}
 use borrow.Author.Needs.{needs}
 use Rattle.closed.proofs.Laying.{lay-comment, lay-subtitle}
 use Rattle.closed.proofs.lay.Statement.{statement}
 use Rattle.closed.proofs.lay.Tie as tie
 
 returns : tie.Need-returns
-returns c =
-    let a = c .before .before .before .before .before .before in
-    lay-comment _ _ _ (c .before .is-comment .ensures) _ (c .if1 .taken) (omega (arith, a .good)) (omega (arith, a .good))
+returns c = lay-comment _ _ _ (c .before .is-comment .ensures) _ (c .if1 .taken)
 
 returns-2 : tie.Need-returns-2
 returns-2 c =

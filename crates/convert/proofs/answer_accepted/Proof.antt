@@ -5,9 +5,6 @@ use Rattle.meaning.specs.Conversion.{acceptedAnswer}
 use Rattle.convert.proofs.answer_accepted.Statement.{statement}
 use Rattle.convert.proofs.answer_accepted.Tie as tie
 
-returns : tie.Need-returns
-unfolding acceptedAnswer
-returns c = search needs
-
 pub answer-accepted-spec : {M : Type 1} → statement M
-answer-accepted-spec = tie.close (tie.spec returns)
+unfolding acceptedAnswer
+answer-accepted-spec = tie.close (tie.spec (λ c. search needs))

@@ -1,6 +1,5 @@
 -- `put_answer` stores the eight numbers one after the other.
 -- Assumes nothing.
-use lib.Seq.{sets}
 use borrow.Author.Needs.{needs}
 use Rattle.output.specs.Output.{stored}
 use Rattle.milursake.specs.Numbers.{numbersOf}

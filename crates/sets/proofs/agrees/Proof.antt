@@ -5,9 +5,6 @@ use Rattle.meaning.specs.Sets.{agrees}
 use Rattle.sets.proofs.agrees.Statement.{statement}
 use Rattle.sets.proofs.agrees.Tie as tie
 
-returns : tie.Need-returns
-unfolding agrees
-returns c = search needs
-
 pub agrees-spec : {M : Type 1} → statement M
-agrees-spec = tie.close (tie.spec returns)
+unfolding agrees
+agrees-spec = tie.close (tie.spec (λ c. search needs))

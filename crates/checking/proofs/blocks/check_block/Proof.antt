@@ -11,16 +11,16 @@ returns : tie.Need-returns
 returns c =
     let t = c .before .before .before .before .before .before .before .before .before .before in
     rw (c .refused2 .ensures)
-    (on-bad _ _ _ (t .before .before .before .before .before .before .pre .0) (t .take-block .ensures) (c .before .before .before .before .before .before .step3 .given .1) (c .before .before .before .set-rule .ensures) (c .before .if1 .taken))
+    (on-bad _ _ _ _ _ _ _ _ (t .before .before .before .before .before .before .pre) (t .take-block .ensures) (c .before .before .before .before .before .before .step3 .given .1) (c .before .before .before .set-rule .ensures) (c .before .if1 .taken))
 
 returns-2 : tie.Need-returns-2
-returns-2 c = let t = c .before .before .before .before in on-full _ _ _ (t .before .before .before .before .before .before .pre .0) (t .take-block .ensures) (c .enum-told .given .1)
+returns-2 c = let t = c .before .before .before .before in on-full _ _ _ _ _ _ _ _ (t .before .before .before .before .before .before .pre) (t .take-block .ensures) (c .enum-told .given .1)
 
 returns-3 : tie.Need-returns-3
-returns-3 c = let t = c .before .before .before .before .before .before in rw (c .refused .ensures) (on-broken _ _ _ (t .before .before .before .before .before .before .pre .0) (t .take-block .ensures) (c .before .before .step .given .1))
+returns-3 c = let t = c .before .before .before .before .before .before in rw (c .refused .ensures) (on-broken _ _ _ _ _ _ _ _ (t .before .before .before .before .before .before .pre) (t .take-block .ensures) (c .before .before .step .given .1))
 
 returns-4 : tie.Need-returns-4
-returns-4 c = let t = c .before .before .before .before .before .before in rw (c .going .ensures) (on-pending _ _ _ (t .before .before .before .before .before .before .pre .0) (t .take-block .ensures) (c .before .before .step2 .given .1))
+returns-4 c = let t = c .before .before .before .before .before .before in rw (c .going .ensures) (on-pending _ _ _ _ _ _ _ _ (t .before .before .before .before .before .before .pre) (t .take-block .ensures) (c .before .before .step2 .given .1))
 
 same-length-5 : tie.Need-same-length-5
 same-length-5 c = let t = c .before .before .before .before .before .before .before .before .before .before .before .before .before .before .before .before .before .before in t .take-block .kept .1 .1 .1 .0
@@ -31,7 +31,7 @@ returns-5 c =
     let r = l .before .before .before .before .before .before in
     let t = r .before .before .before .before .before .before .before in
     rw (c .going2 .ensures)
-    (on-good _ _ _ (t .before .before .before .before .before .before .pre .0) (t .take-block .ensures) (r .before .before .before .step3 .given .1)
+    (on-good _ _ _ _ _ _ _ _ (t .before .before .before .before .before .before .pre) (t .take-block .ensures) (r .before .before .before .step3 .given .1)
     (rw (sym (r .set-rule .ensures)) (good-number _ (l .before .before .before .before .if1 .left))) (l .lay .ensures))
 
 pub check-block-spec : {M : Type 1} → statement M

@@ -7,25 +7,13 @@ use Rattle.meaning.specs.Walk.{total, counted}
 use Rattle.checking.proofs.blocks.counted.Statement.{statement}
 use Rattle.checking.proofs.blocks.counted.Tie as tie
 
-add-r : tie.Need-add-r
-unfolding total
-add-r c = search needs
-
 returns : tie.Need-returns
 unfolding counted
 returns c = let i = c .before in rw (sym (i .before .is-user .ensures) ∙ i .if1 .taken, add-one)
 
-add-r-2 : tie.Need-add-r-2
-unfolding total
-add-r-2 c = search needs
-
 returns-2 : tie.Need-returns-2
 unfolding counted
 returns-2 c = let i = c .before .before in rw (sym (i .before .is-user .ensures) ∙ i .if1 .left, c .before .if2 .taken, add-one)
-
-add-r-3 : tie.Need-add-r-3
-unfolding total
-add-r-3 c = search needs
 
 returns-3 : tie.Need-returns-3
 unfolding counted
@@ -33,10 +21,6 @@ returns-3 c =
     let d = c .before in
     let i = d .before .before .before in
     rw (sym (i .before .is-user .ensures) ∙ i .if1 .left, d .before .before .if2 .left, sym (d .before .is-comment .ensures) ∙ d .if3 .taken, add-one)
-
-add-r-4 : tie.Need-add-r-4
-unfolding total
-add-r-4 c = search needs
 
 returns-4 : tie.Need-returns-4
 unfolding counted
@@ -46,4 +30,7 @@ returns-4 c =
     rw (sym (i .before .is-user .ensures) ∙ i .if1 .left, d .before .before .if2 .left, sym (d .before .is-comment .ensures) ∙ d .if3 .left, add-one)
 
 pub counted-spec : {M : Type 1} → statement M
-counted-spec = tie.close (tie.spec (λ c κs. search needs) add-r returns add-r-2 returns-2 (λ c κs. search needs) add-r-3 returns-3 add-r-4 returns-4)
+unfolding total
+counted-spec =
+    tie.close (tie.spec (λ c κs. search needs) (λ c. search needs) returns (λ c. search needs) returns-2 (λ c κs. search needs)
+    (λ c. search needs) returns-3 (λ c. search needs) returns-4)

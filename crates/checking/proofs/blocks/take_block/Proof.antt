@@ -1,7 +1,6 @@
 -- `take_block` counts a block and has its step made.
 -- Assumes nothing.
 use borrow.Author.Needs.{needs}
-use Rattle.checking.proofs.Stepping.{taken}
 use Rattle.checking.proofs.blocks.take_block.Statement.{statement}
 use Rattle.checking.proofs.blocks.take_block.Tie as tie
 
@@ -10,7 +9,8 @@ returns c =
     let a = c .before .before in
     let n = a .before .before in
     let s = n .before .before in
-    taken (s .before .before .before .before .pre .0) (s .is-open .ensures _) (n .before .header-of .ensures) (n .counted .ensures) (a .advance .ensures)
+    let text = s .before .before .before .before .args .text .now in
+    (rw (a .advance .ensures .0, n .counted .ensures, s .is-open .ensures text, n .before .header-of .ensures), a .advance .ensures .1)
 
 pub take-block-spec : {M : Type 1} → statement M
 take-block-spec =
