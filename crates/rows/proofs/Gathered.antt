@@ -8,23 +8,20 @@ use mathlib.Core.List.{List, [], _∷_, _++_, map, append-nil}
 use lib.Dec.{leb}
 use lib.ListN.{length, length-append}
 use lib.Seq.{append-snoc}
-use borrow.Author.Tests.{lt-ltb, le-leb, lt-leb, leb-true, leb-false}
+use borrow.Author.Tests.{lt-ltb}
 use Rattle.meaning.specs.declared.Token.{Token}
 use Rattle.meaning.specs.declared.Token.the-variants.{Character}
 use Rattle.meaning.specs.Lists.{all, any, keep}
 use Rattle.meaning.specs.Codes.{isListed, isCharacter, takesCell, isDoubleHeight}
 use Rattle.meaning.specs.Rows.{heightFirst, rowLimit, isShort}
-use Rattle.meaning.proofs.Logic.{by-test}
+use Rattle.meaning.proofs.Logic.{by-test, same-leb}
 use Rattle.meaning.proofs.ListLaws.{any-cons, all-end, any-end}
 use Rattle.rows.specs.declared.RowFacts.{RowFacts}
 use Rattle.rows.specs.Scanning.{countLimit, factsOfRow, withToken, withCharacters, factsOfRows, withRow}
 
 -- a test below its limit does not tell a count from a capped one
 capped : (limit n k : ℕ) → k < limit → leb (min n limit) k ≡ leb n k
-capped limit n k h =
-    by-test (leb n k)
-    (λ e. rw e (le-leb (min n limit) k (omega (arith, leb-true n k e))))
-    (λ e. rw e (lt-leb (min n limit) k (omega (arith, leb-false n k e))))
+capped limit n k h = same-leb (min n limit) k n k (λ e. omega arith) (λ e. omega arith)
 
 module _ (t : Token) where
   -- no 0Dh may follow a character

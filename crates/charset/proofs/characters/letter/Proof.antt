@@ -2,7 +2,7 @@
 -- Assumes nothing.
 use native.Mathlib.Omega.{arith}
 use Rattle.meaning.specs.Characters.{letter}
-use Rattle.charset.proofs.Codes.{between}
+use Rattle.meaning.proofs.Logic.{between}
 use Rattle.charset.proofs.characters.letter.Statement.{statement}
 use Rattle.charset.proofs.characters.letter.Tie as tie
 
