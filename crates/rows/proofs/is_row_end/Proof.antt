@@ -1,4 +1,4 @@
--- `is_row_end` meets its contract.
+-- `is_row_end` tells a row end: a case for each token, as in the definition.
 -- Assumes nothing.
 use borrow.Author.Needs.{needs}
 use Rattle.meaning.specs.Codes.{isRowEnd}

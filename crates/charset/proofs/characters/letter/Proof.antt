@@ -20,9 +20,6 @@ returns-2 : tie.Need-returns-2
 unfolding letter
 returns-2 c = (rw (c .before .if1 .left, c .if2 .taken), omega (arith, between 97 122 (c .before .before .args .c) (c .if2 .taken)))
 
-returns-3 : tie.Need-returns-3
-unfolding letter
-returns-3 c = (rw (c .before .if1 .left, c .if2 .left), omega arith)
-
 pub letter-spec : {M : Type 1} → statement M
-letter-spec = tie.close (tie.spec sub-result returns sub-result-2 returns-2 returns-3)
+unfolding letter
+letter-spec = tie.close (tie.spec sub-result returns sub-result-2 returns-2 (λ c. (rw (c .before .if1 .left, c .if2 .left), omega arith)))

@@ -1,4 +1,4 @@
--- `RowFacts::none` meets its contract.
+-- `RowFacts::none` gives the facts of no tokens, which the definition computes.
 -- Assumes nothing.
 use borrow.Author.Needs.{needs}
 use Rattle.meaning.specs.Lists.{all, any, keep}

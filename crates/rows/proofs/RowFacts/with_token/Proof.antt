@@ -1,4 +1,4 @@
--- `RowFacts::with_token` meets its contract.
+-- `RowFacts::with_token` adds a token: a case for each, and 0Dh by its code.
 -- Assumes nothing.
 use borrow.Author.Needs.{needs}
 use borrow.Author.Tests.{eq-eqb, ne-eqb}

@@ -1,4 +1,4 @@
--- `TextFacts::none` meets its contract.
+-- `TextFacts::none` gives the facts of no rows, which the definition computes.
 -- Assumes nothing.
 use borrow.Author.Needs.{needs}
 use Rattle.meaning.specs.Lists.{all, any}
