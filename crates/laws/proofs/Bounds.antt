@@ -29,7 +29,7 @@ use Rattle.meaning.specs.Document.Piece.{span, br}
 use Rattle.meaning.specs.Document.Alignment.{left, centre, right}
 use Rattle.meaning.specs.Conversion.{spanOf, rowSpans, laterRows, rowPieces, fillers, paragraphOf, documentOf}
 use Rattle.meaning.specs.Profile.{startsWith, spanElements}
-use Rattle.meaning.proofs.Logic.{by-test, and-parts, between}
+use Rattle.meaning.proofs.Logic.{by-test, by-cond, and-parts, between}
 use Rattle.meaning.proofs.ListLaws.{All, Any, any-blocks, all-of, all-copies, all-map, join-append, test-split}
 use Rattle.meaning.proofs.RefusalLaws.{unbroken}
 use Rattle.meaning.proofs.ListLaws.All.{nil, cons}
@@ -82,8 +82,7 @@ join-bound f n nil = omega arith
 join-bound f n (cons h k) = simp length-append (omega (arith, join-bound f n k))
 
 either-bound : (n : ℕ) (b : Bool) (x y : List ℕ) → length x ≤ n → length y ≤ n → length (cond b x y) ≤ n
-either-bound n true x y h k = h
-either-bound n false x y h k = k
+either-bound n = by-cond (λ (l : List ℕ). length l ≤ n)
 
 -- numbers and characters
 digits-length : (k n : ℕ) → length (digits k n) ≡ k

@@ -2,9 +2,9 @@
 -- Assumes nothing.
 use Prim.Native.Nat.{ℕ, zero, suc, _+_, _*_}
 use native.Mathlib.Omega.{arith}
-use mathlib.Core.Path.{_≡_, refl, ap, _∙_}
+use mathlib.Core.Path.{_≡_, refl, sym, ap, subst, _∙_}
 use mathlib.Core.Bool.{Bool, true, false}
-use mathlib.Core.List.{List, [], _∷_, _++_, map, flatMap}
+use mathlib.Core.List.{List, [], _∷_, _++_, map, append-assoc, flatMap, flatten}
 use lib.Dec.{eqb, ltb}
 use lib.ListN.{getD}
 use borrow.Author.Tests.{ltb-true}
@@ -21,7 +21,7 @@ use Rattle.meaning.specs.Cells.{Cell, points, glyphs, cellCharacter, controlHer
 use Rattle.meaning.specs.Spans.{foregroundOf, lookOf, uniform, spansFrom, spans}
 use Rattle.meaning.specs.Profile.{isScalar}
 use Rattle.meaning.proofs.Logic.{by-test}
-use Rattle.meaning.proofs.ListLaws.{All, all-append, all-at, all-so, all-tested, test-all}
+use Rattle.meaning.proofs.ListLaws.{All, all-append, all-left, all-right, all-at, all-so, all-tested, test-all}
 use Rattle.meaning.proofs.ListLaws.All.{nil, cons}
 use Rattle.meaning.proofs.LookLaws.{ThreeBits, white-bits, blend-bits}
 use Rattle.meaning.proofs.RowLaws.{rows-tested}
@@ -163,20 +163,28 @@ rows-of p (cons {x = r} w h) = cons (cells-sound (rowStart r p) r (start-bits r 
 pub rows-sound : (mode : ℕ) (p : Pen) (text : List ℕ) → All (All Sound) (cellRows p (rows mode (tokens text)))
 rows-sound mode p text = rows-of p (rows-writable mode text)
 
--- a property of all cells holds in every span
-module _ {P : Cell → Type 0} where
-  from-all : (cur cs : List Cell) → All P cur → All P cs → All (All P) (spansFrom cur cs)
-  unfolding spansFrom
-  from-all cur [] k h = cons k nil
-  from-all cur (c ∷ cs) k (cons p h) =
-      by-test (uniform (cur ++ (c ∷ [])))
-      (λ e. rw (e, spansFrom) (from-all (cur ++ (c ∷ [])) cs (all-append k (cons p nil)) h))
-      (λ e. rw (e, spansFrom) (cons k (from-all (c ∷ []) cs (cons p nil) h)))
+-- spans together are the cells
+from-flat : (cur cs : List Cell) → flatten (spansFrom cur cs) ≡ cur ++ cs
+unfolding flatten spansFrom
+from-flat cur [] = refl
+from-flat cur (c ∷ cs) =
+    by-test (uniform (cur ++ (c ∷ [])))
+    (λ e. rw (e, spansFrom) (from-flat (cur ++ (c ∷ [])) cs ∙ append-assoc cur (c ∷ []) cs))
+    (λ e. rw (e, spansFrom) (ap (λ (l : List Cell). cur ++ l) (from-flat (c ∷ []) cs)))
 
-  pub spans-all : (cs : List Cell) → All P cs → All (All P) (spans cs)
-  unfolding spans
-  spans-all [] h = nil
-  spans-all (c ∷ cs) (cons p h) = from-all (c ∷ []) cs (cons p nil) h
+pub spans-flat : (cs : List Cell) → flatten (spans cs) ≡ cs
+unfolding spans flatten
+spans-flat [] = refl
+spans-flat (c ∷ cs) = from-flat (c ∷ []) cs
+
+-- so a property of all cells holds in every span
+all-parts : {A : Type 0} {P : A → Type 0} (xss : List (List A)) → All P (flatten xss) → All (All P) xss
+unfolding flatten
+all-parts [] h = nil
+all-parts (xs ∷ xss) h = cons (all-left xs (flatten xss) h) (all-parts xss (all-right xs (flatten xss) h))
+
+pub spans-all : {P : Cell → Type 0} (cs : List Cell) → All P cs → All (All P) (spans cs)
+spans-all {P} cs h = all-parts (spans cs) (subst (All P) (sym (spans-flat cs)) h)
 
 -- the look of a span
 foreground-bits : (cs : List Cell) → All Sound cs → ThreeBits (foregroundOf cs)

@@ -4,7 +4,7 @@ use Prim.Native.Nat.{ℕ, zero, suc, _+_, _/_, _<_}
 use native.Mathlib.Omega.{arith}
 use native.Mathlib.Nat.{zero-add}
 use mathlib.Core.Path.{_≡_, refl, sym, ap, _∙_}
-use mathlib.Core.Bool.{Bool, true, false, cond}
+use mathlib.Core.Bool.{Bool}
 use mathlib.Core.List.{List, [], _∷_, _++_, append-assoc, append-nil, flatMap}
 use lib.Dec.{ltb, eqb}
 use lib.ListN.{length, length-append}
@@ -15,7 +15,7 @@ use Rattle.meaning.specs.Document.{Span, Piece, Alignment, Paragraph, Document,
 use Rattle.meaning.specs.Document.Piece.{span, br}
 use Rattle.meaning.specs.Document.Alignment.{left, centre, right}
 use Rattle.meaning.specs.Profile.{startsWith, spanElements}
-use Rattle.meaning.proofs.Logic.{by-test}
+use Rattle.meaning.proofs.Logic.{by-test, by-cond}
 use Rattle.meaning.proofs.ListLaws.{All, all-append}
 use Rattle.meaning.proofs.ListLaws.All.{nil, cons}
 
@@ -68,30 +68,14 @@ plain-zeros (cons {x = d} h (cons {x = e} k l)) =
     (λ f. rw (f, withoutZeros) (plain-zeros (cons k l)))
     (λ f. rw (f, withoutZeros) (cons h (cons k l)))
 
-high : (b : ℕ) → 60 < b → Plain b
-high b h z = omega arith
-
 plain-utf8 : (p : ℕ) → Plain p → All Plain (utf8 p)
 unfolding utf8
 plain-utf8 p h =
-    by-test (ltb p 128)
-    (λ e. rw e (cons h nil))
-    (λ e.
-    by-test (ltb p 2048)
-    (λ f. rw (e, f) (two _ _))
-    (λ f. by-test (ltb p 65536) (λ g. rw (e, f, g) (three _ _ _)) (λ g. rw (e, f, g) (four _ _ _ _))))
-  where
-    tail : (a : ℕ) → Plain (128 + a)
-    tail a = high (128 + a) (omega arith)
-
-    two : (a b : ℕ) → All Plain ((192 + a) ∷ (128 + b) ∷ [])
-    two a b = cons (high (192 + a) (omega arith)) (cons (tail b) nil)
-
-    three : (a b c : ℕ) → All Plain ((224 + a) ∷ (128 + b) ∷ (128 + c) ∷ [])
-    three a b c = cons (high (224 + a) (omega arith)) (cons (tail b) (cons (tail c) nil))
-
-    four : (a b c d : ℕ) → All Plain ((240 + a) ∷ (128 + b) ∷ (128 + c) ∷ (128 + d) ∷ [])
-    four a b c d = cons (high (240 + a) (omega arith)) (cons (tail b) (cons (tail c) (cons (tail d) nil)))
+    by-cond (All Plain) (ltb p 128) _ _ (cons h nil)
+    (by-cond (All Plain) (ltb p 2048) _ _ (cons (λ z. omega arith) (cons (λ z. omega arith) nil))
+    (by-cond (All Plain) (ltb p 65536) _ _
+    (cons (λ z. omega arith) (cons (λ z. omega arith) (cons (λ z. omega arith) nil)))
+    (cons (λ z. omega arith) (cons (λ z. omega arith) (cons (λ z. omega arith) (cons (λ z. omega arith) nil))))))
 
 in-digits : (k n : ℕ) → HasSpans 0 (digits k n)
 in-digits k n = plain (plain-digits k n)
@@ -160,14 +144,9 @@ unfolding flatMap documentSpans documentLooks countSpans
 in-paragraphs [] = nothing
 in-paragraphs (p ∷ ps) = num (sym (length-append (looksOf (p .pieces)) (documentLooks ps))) (in-paragraph p & in-paragraphs ps)
 
--- one of two fixed texts
-either : (b : Bool) (x y : List ℕ) → HasSpans 0 x → HasSpans 0 y → HasSpans 0 (cond b x y)
-either true x y p q = p
-either false x y p q = q
-
 in-channel : (bit : ℕ) → HasSpans 0 (channel bit)
 unfolding channel spanElements startsWith bytes
-in-channel bit = either (eqb bit 0) _ _ (fixed (bytes "00") (λ s. refl)) (fixed (bytes "ff") (λ s. refl))
+in-channel bit = by-cond (HasSpans 0) (eqb bit 0) _ _ (fixed (bytes "00") (λ s. refl)) (fixed (bytes "ff") (λ s. refl))
 
 in-colour : (c : ℕ) → HasSpans 0 (colourName c)
 unfolding colourName joined spanElements startsWith bytes
@@ -175,7 +154,7 @@ in-colour c = fixed (bytes "#") (λ s. refl) & in-channel _ & in-channel _ & in-
 
 in-size : (double : Bool) → HasSpans 0 (sizeName double)
 unfolding sizeName spanElements startsWith bytes
-in-size double = either double _ _ (fixed (bytes "1c 2c") (λ s. refl)) (fixed (bytes "1c 1c") (λ s. refl))
+in-size double = by-cond (HasSpans 0) double _ _ (fixed (bytes "1c 2c") (λ s. refl)) (fixed (bytes "1c 1c") (λ s. refl))
 
 in-style : (look : ℕ) → HasSpans 0 (writeStyle look)
 unfolding writeStyle joined spanElements startsWith bytes

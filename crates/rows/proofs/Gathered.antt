@@ -23,20 +23,15 @@ use Rattle.rows.specs.Scanning.{countLimit, factsOfRow, withToken, withC
 capped : (limit n k : ℕ) → k < limit → leb (min n limit) k ≡ leb n k
 capped limit n k h = same-leb (min n limit) k n k (λ e. omega arith) (λ e. omega arith)
 
-module _ (t : Token) where
-  -- no 0Dh may follow a character
-  height-cons : (ts : List Token) → heightFirst (t ∷ ts) ≡ cond (isCharacter t) (not (any isDoubleHeight ts)) (heightFirst ts)
-  unfolding heightFirst
-  height-cons ts = by-test (isCharacter t) (λ e. rw (e, heightFirst)) (λ e. rw (e, heightFirst))
+-- no 0Dh may follow a character
+height-cons : (t : Token) (ts : List Token) → heightFirst (t ∷ ts) ≡ cond (isCharacter t) (not (any isDoubleHeight ts)) (heightFirst ts)
+unfolding heightFirst
+height-cons t ts = by-test (isCharacter t) (λ e. rw (e, heightFirst)) (λ e. rw (e, heightFirst))
 
-  kept-end : (ts : List Token) → length (keep takesCell (ts ++ (t ∷ []))) ≡ cond (takesCell t) (length (keep takesCell ts) + 1) (length (keep takesCell ts))
-  unfolding keep
-  kept-end [] = by-test (takesCell t) (λ e. rw (e, keep)) (λ e. rw (e, keep))
-  kept-end (u ∷ ts) = by-test (takesCell u) (λ e. rw (e, keep, kept-end ts) (onto (takesCell t))) (λ e. rw (e, keep) (kept-end ts))
-    where
-      onto : (b : Bool) → suc (cond b (length (keep takesCell ts) + 1) (length (keep takesCell ts))) ≡ cond b (suc (length (keep takesCell ts)) + 1) (suc (length (keep takesCell ts)))
-      onto true = omega arith
-      onto false = refl
+keep-append : (ts us : List Token) → keep takesCell (ts ++ us) ≡ keep takesCell ts ++ keep takesCell us
+unfolding keep
+keep-append [] us = refl
+keep-append (t ∷ ts) us = by-test (takesCell t) (λ e. rw (e, keep, keep-append ts us)) (λ e. rw (e, keep) (keep-append ts us))
 
 not-either : (d r : Bool) → not (d || r) ≡ (not (d && true) && not r)
 not-either true r = refl
@@ -52,10 +47,10 @@ height-end (u ∷ ts) t =
     (λ e. rw (height-cons u (ts ++ (t ∷ [])), height-cons u ts, any-cons isCharacter u ts, e) (height-end ts t))
 
 pub with-token : (ts : List Token) (t : Token) → factsOfRow (ts ++ (t ∷ [])) ≡ withToken (factsOfRow ts) t
-unfolding factsOfRow withToken
+unfolding factsOfRow withToken keep
 with-token ts t =
     let cells : min (length (keep takesCell (ts ++ (t ∷ [])))) countLimit ≡ cond (takesCell t) (min (min (length (keep takesCell ts)) countLimit + 1) countLimit) (min (length (keep takesCell ts)) countLimit) =
-    by-test (takesCell t) (λ e. rw (kept-end t ts, e) (omega arith)) (λ e. rw (kept-end t ts, e)) in
+    rw (keep-append ts (t ∷ []), length-append) (by-test (takesCell t) (λ e. rw (e, keep) (omega arith)) (λ e. rw (e, keep) (omega arith))) in
     rw (cells, all-end isListed ts t, any-end isDoubleHeight ts t, any-end isCharacter ts t, height-end ts t)
 
 more-characters : (f : RowFacts) (c n : ℕ) → withCharacters (withToken f (Character c)) n ≡ withCharacters f (suc n)
