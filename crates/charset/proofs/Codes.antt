@@ -84,12 +84,9 @@ module _ (c : ℕ) where
   pub no-token : c < 160 → isPlain c ≡ false → isControl c ≡ false → (c ≡ 36 → ⊥) → (c ≡ 138 → ⊥) → codeToken c ≡ Unlisted
   unfolding characterOf
   no-token h p n d r =
-      let outside : 32 ≤ c → c ≤ 126 → ⊥ = λ l u. false-not-true (sym p ∙ in-range-plain c l u d) in
-      let none : latin c ≡ 0 = by-range c (omega arith) ∙ by-test (ltb c 32) (λ t. rw t) (λ t. rw (t, ne-eqb c 36 d, le-ltb c 127 (above outside (ltb-false c 32 t)), lt-ltb c 160 h)) in
+      let high : 32 ≤ c → 127 ≤ c = λ l. by-le c 126 (λ u. absurd (false-not-true (sym p ∙ in-range-plain c l u d))) (λ u. u) in
+      let none : latin c ≡ 0 = by-range c (omega arith) ∙ by-test (ltb c 32) (λ t. rw t) (λ t. rw (t, ne-eqb c 36 d, le-ltb c 127 (high (ltb-false c 32 t)), lt-ltb c 160 h)) in
       as-character c r n ∙ rw none
-    where
-      above : (32 ≤ c → c ≤ 126 → ⊥) → 32 ≤ c → 127 ≤ c
-      above o l = by-le c 126 (λ t. absurd (o l t)) (λ t. t)
 
 pub composed-alone : (a : ℕ) → composed a 0 ≡ 0
 unfolding composed

@@ -5,12 +5,9 @@ use Rattle.meaning.specs.Codes.{isDoubleHeight}
 use Rattle.rows.proofs.is_double_height.Statement.{statement}
 use Rattle.rows.proofs.is_double_height.Tie as tie
 
-returns-2 : tie.Need-returns-2
-unfolding isDoubleHeight
-returns-2 c = rw (c .before .t .given .1)
-
 pub is-double-height-spec : {M : Type 1} → statement M
 unfolding isDoubleHeight
 is-double-height-spec =
-    tie.close (tie.spec (λ c. search needs) (λ c. search needs) (λ c. search needs) (λ c. search needs) (λ c. search needs) returns-2 (λ c. search needs)
-    (λ c. search needs))
+    tie.close (tie.spec (λ c. search needs) (λ c. search needs) (λ c. search needs) (λ c. search needs) (λ c. search needs)
+    (λ c. rw (c .before .t .given .1))
+    (λ c. search needs) (λ c. search needs))
