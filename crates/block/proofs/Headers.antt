@@ -5,12 +5,8 @@ use mathlib.Core.List.{List, [], _∷_, _++_}
 use mathlib.Core.Path.{_≡_, refl}
 use lib.ListN.{length, drop, getD, replicate}
 use lib.Seq.{getD-drop}
+use Rattle.meaning.proofs.ListLaws.{at-copies}
 use Rattle.meaning.specs.Blocks.{timeAt, headerOf}
-
-zeros : (n i : ℕ) → getD {A = ℕ} (replicate n 0) i 0 ≡ 0
-zeros zero i = refl
-zeros (suc n) zero = refl
-zeros (suc n) (suc i) = zeros n i
 
 filled : (b z : List ℕ) → ((i : ℕ) → getD z i 0 ≡ 0) → (j : ℕ) → getD (b ++ z) j 0 ≡ getD b j 0
 filled [] z h j = h j
@@ -27,4 +23,4 @@ module _ (a b : List ℕ) (e : (j : ℕ) → getD a j 0 ≡ getD b j 0) where
   header-alike = rw (e 0, e 1, e 2, e 3, e 4, time-alike 5, time-alike 9, e 13, e 14, e 15)
 
 pub header-filled : (b : List ℕ) (k : ℕ) → headerOf (b ++ drop (length b) (replicate k 0)) ≡ headerOf b
-header-filled b k = header-alike _ b (filled b (drop (length b) (replicate k 0)) (λ i. rw getD-drop (zeros k (length b + i))))
+header-filled b k = header-alike _ b (filled b (drop (length b) (replicate k 0)) (λ i. rw getD-drop (at-copies k (length b + i) 0)))

@@ -1,4 +1,3 @@
-pub mod Storing
 pub mod Decoding
 pub mod ReadBack
 pub mod Laws

@@ -2,8 +2,8 @@
 
 ghost use mathlib.Core.Path.{_≡_};
 ghost use mathlib.Core.List.{map};
-ghost use Prim.Native.Nat.{_+_, _<_, _^_};
-ghost use lib.ListN.{length, set, replicate};
+ghost use Prim.Native.Nat.{_+_, _-_, _<_, _≤_, _^_};
+ghost use lib.ListN.{length, set, take, drop, replicate};
 ghost use Rattle.meaning.specs.Looks.{pack};
 ghost use Rattle.meaning.specs.Cells.{cellsOf};
 ghost use Rattle.output.specs.Output.{stored};
@@ -81,13 +81,25 @@ fn put_cell(characters: &mut [u16], looks: &mut [u16], k: usize, token: Token, p
     k + 1
 }
 
-// The cells of a run of plain codes, which leave the pen as it is.
-fn put_run(characters: &mut [u16], looks: &mut [u16], k: usize, codes: &[u8], pen: Pen)
-    ensures { λ _. ⌜ (now (characters .exit) ≡ stored (now (characters .entry)) k (map character (runCells pen (now (codes .entry))))) × (now (looks .exit) ≡ stored (now (looks .entry)) k (map packedLook (runCells pen (now (codes .entry))))) ⌝ }
+// The cells of the plain codes from one position up to another, which leave the pen as it is, and how many cells there are
+// then.
+fn put_run(
+    characters: &mut [u16],
+    looks: &mut [u16],
+    k: usize,
+    text: &[u8],
+    from: usize,
+    to: usize,
+    pen: Pen,
+) -> usize
+    requires { ⌜ (from ≤ to) × (to ≤ length (now text)) × (k + (to - from) < 2 ^ 64) ⌝ }
+    ensures { λ r. ⌜ (now (characters .exit) ≡ stored (now (characters .entry)) k (map character (runCells pen (take (to - from) (drop from (now (text .entry))))))) × (now (looks .exit) ≡ stored (now (looks .entry)) k (map packedLook (runCells pen (take (to - from) (drop from (now (text .entry))))))) × (r ≡ k + (to - from)) ⌝ }
 {
-    put_characters(characters, k, codes);
+    let n = to - from;
+    put_characters(characters, k, &text[from..to]);
     let look = pen.look;
-    put_looks(looks, k, codes.len(), look);
+    put_looks(looks, k, n, look);
+    k + n
 }
 
 // The cells of the row that starts at a position, from the pen before it. Those that the arrays have no place for are
@@ -119,8 +131,7 @@ pub fn decode_row(
         pen = drawing::pen_after(token, pen);
         let after = reading.next;
         i = charset::plain_end(text, after);
-        put_run(characters, looks, n, &text[after..i], pen);
-        n += i - after;
+        n = put_run(characters, looks, n, text, after, i, pen);
     }
     RowRead {
         cells: n,

@@ -3,15 +3,15 @@
 use Prim.Native.Nat.{ℕ, zero, suc, _+_, _*_, _-_, _≤_, _<_}
 use native.Mathlib.Omega.{arith}
 use mathlib.Core.Path.{_≡_, refl, sym, _∙_}
-use mathlib.Core.Bool.{true, false, cond, not, _&&_, and-eq-true-iff}
+use mathlib.Core.Bool.{true, false, cond, not, _&&_}
 use lib.Dec.{ltb, leb, eqb}
 use lib.ListN.{getD, drop}
-use borrow.Author.Tests.{lt-ltb, le-ltb, le-leb, ne-eqb, eqb-true, eqb-false, leb-true, leb-false, ltb-false, not-true}
+use borrow.Author.Tests.{lt-ltb, le-ltb, le-leb, ne-eqb, eqb-true, eqb-false, ltb-false, not-true}
 use Rattle.meaning.specs.declared.Token.the-variants.{Character, Control, Unlisted}
 use Rattle.meaning.specs.Tables.{latinTable, composedTable}
 use Rattle.meaning.specs.Characters.{latin, composed}
 use Rattle.meaning.specs.Codes.{isControl, characterOf, codeToken}
-use Rattle.meaning.proofs.Logic.{by-test, false-not-true, and-parts}
+use Rattle.meaning.proofs.Logic.{by-test, by-le, false-not-true, and-parts, between}
 use Rattle.charset.specs.Plain.{isPlain}
 use Rattle.charset.proofs.Table.{every, at}
 
@@ -39,8 +39,8 @@ pub plain-range : (c : ℕ) → isPlain c ≡ true → (32 ≤ c) × (c ≤ 126)
 unfolding isPlain
 plain-range c e =
     let w = and-parts (leb 32 c && leb c 126) (not (eqb c 36)) e in
-    let v = and-parts (leb 32 c) (leb c 126) (w .0) in
-    (leb-true 32 c (v .0), leb-true c 126 (v .1), eqb-false c 36 (not-true (eqb c 36) (w .1)))
+    let v = between 32 126 c (w .0) in
+    (v .0, v .1, eqb-false c 36 (not-true (eqb c 36) (w .1)))
 
 pub in-range-plain : (c : ℕ) → 32 ≤ c → c ≤ 126 → (c ≡ 36 → ⊥) → isPlain c ≡ true
 unfolding isPlain
@@ -84,15 +84,9 @@ module _ (c : ℕ) where
   pub no-token : c < 160 → isPlain c ≡ false → isControl c ≡ false → (c ≡ 36 → ⊥) → (c ≡ 138 → ⊥) → codeToken c ≡ Unlisted
   unfolding characterOf
   no-token h p n d r =
-      let outside : 32 ≤ c → c ≤ 126 → ⊥ = λ l u. false-not-true (sym p ∙ in-range-plain c l u d) in
-      let none : latin c ≡ 0 = by-range c (omega arith) ∙ by-test (ltb c 32) (λ t. rw t) (λ t. rw (t, ne-eqb c 36 d, le-ltb c 127 (above outside (ltb-false c 32 t)), lt-ltb c 160 h)) in
+      let high : 32 ≤ c → 127 ≤ c = λ l. by-le c 126 (λ u. absurd (false-not-true (sym p ∙ in-range-plain c l u d))) (λ u. u) in
+      let none : latin c ≡ 0 = by-range c (omega arith) ∙ by-test (ltb c 32) (λ t. rw t) (λ t. rw (t, ne-eqb c 36 d, le-ltb c 127 (high (ltb-false c 32 t)), lt-ltb c 160 h)) in
       as-character c r n ∙ rw none
-    where
-      above : (32 ≤ c → c ≤ 126 → ⊥) → 32 ≤ c → 127 ≤ c
-      above o l = by-test (leb c 126) (λ t. absurd (o l (leb-true c 126 t))) (λ t. omega (arith, leb-false c 126 t))
-
-pub between : (a b c : ℕ) → (leb a c && leb c b) ≡ true → (a ≤ c) × (c ≤ b)
-between a b c e = let w = and-eq-true-iff (leb a c) (leb c b) .0 e in (leb-true a c (w .0), leb-true c b (w .1))
 
 pub composed-alone : (a : ℕ) → composed a 0 ≡ 0
 unfolding composed

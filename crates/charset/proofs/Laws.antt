@@ -7,16 +7,15 @@ use native.Mathlib.Numerals.{add-one}
 use mathlib.Core.Path.{_≡_, refl, ap, _∙_}
 use mathlib.Core.Bool.{true, false, cond}
 use mathlib.Core.List.{List, [], _∷_, map, _++_}
-use lib.Dec.{ltb}
 use lib.ListN.{length, getD, take, drop, length-drop, drop-of-length-le}
 use lib.Seq.{drop-cons, drop-drop}
-use borrow.Author.Tests.{lt-ltb, lt-leb, ltb-true, ltb-false}
+use borrow.Author.Tests.{lt-ltb, lt-leb, ltb-false}
 use Rattle.meaning.specs.declared.Token.{Token}
 use Rattle.meaning.specs.declared.Token.the-variants.{Character}
 use Rattle.meaning.specs.Characters.{accent}
 use Rattle.meaning.specs.Codes.{isAccent, codeToken, pairToken, tokens, isRowEnd}
 use Rattle.meaning.specs.Lists.{takeWhile}
-use Rattle.meaning.proofs.Logic.{by-test}
+use Rattle.meaning.proofs.Logic.{by-test, by-le}
 use Rattle.meaning.proofs.ListLaws.{while-on, while-off, take-while, while-short, while-more, while-stops, while-ends}
 use Rattle.meaning.proofs.Tokens.{tokens-pair as first-pair, tokens-code}
 use Rattle.charset.specs.declared.Reading.{Reading}
@@ -118,14 +117,13 @@ row-plain s i h p =
 row-passes : (k : ℕ) (s : List ℕ) (i : ℕ) → length (takeWhile isPlain (drop i s)) ≡ k → afterRowAt s i ≡ afterRowAt s (i + k)
 row-passes zero s i e = rw add-zero
 row-passes (suc k) s i e =
-    by-test (ltb i (length s))
-    (λ l.
-    let h = ltb-true i (length s) l in
+    by-le (length s) i
+    (λ l. absurd (omega (arith, while-ends isPlain s i l)))
+    (λ h.
     let one : i + suc k ≡ i + 1 + k = omega arith in
     by-test (isPlain (getD s i 0))
     (λ p. rw one (row-plain s i h p ∙ row-passes k s (i + 1) (omega (arith, while-more isPlain s i 0 h p))))
     (λ p. absurd (omega (arith, while-stops isPlain s i 0 h p))))
-    (λ l. absurd (omega (arith, while-ends isPlain s i (ltb-false i (length s) l))))
 
 -- the codes of a text s from i up to e are a run: the tokens from i on are its characters, and those from e on; the row goes on
 pub record RunOn (s : List ℕ) (i e : ℕ) : Type 0 where

@@ -3,14 +3,14 @@
 use Prim.Native.Nat.{ℕ, zero, suc, _+_, _-_, _≤_, _<_}
 use native.Mathlib.Omega.{arith}
 use mathlib.Core.Path.{_≡_, refl, sym, ap, subst, _∙_}
-use mathlib.Core.Bool.{true, false, cond, and-eq-true-iff}
+use mathlib.Core.Bool.{true, false, cond}
 use mathlib.Core.List.{List}
 use lib.Dec.{ltb}
 use lib.ListN.{length, getD}
-use borrow.Author.Tests.{lt-ltb, le-ltb, ltb-true, ltb-false}
+use borrow.Author.Tests.{lt-ltb, le-ltb, ltb-true}
 use Rattle.meaning.specs.declared.Token.the-variants.{Unlisted}
 use Rattle.meaning.specs.Codes.{isAccent, codeToken, pairToken, isRowEnd}
-use Rattle.meaning.proofs.Logic.{by-test}
+use Rattle.meaning.proofs.Logic.{by-test, by-le, and-parts}
 use Rattle.charset.specs.declared.Reading.{Reading}
 use Rattle.charset.specs.Reading.{isPairAt, readingAt, tokenAt, nextAt, afterRowIn, afterRowAt}
 
@@ -18,7 +18,7 @@ module _ (s : List ℕ) (i : ℕ) where
   pair-parts : isPairAt s i ≡ true → (isAccent (getD s i 0) ≡ true) × (i + 1 < length s)
   unfolding isPairAt
   pair-parts p =
-      let both = and-eq-true-iff (isAccent (getD s i 0)) (ltb (i + 1) (length s)) .0 p in
+      let both = and-parts (isAccent (getD s i 0)) (ltb (i + 1) (length s)) p in
       (both .0, ltb-true (i + 1) (length s) (both .1))
 
   read-pair : i < length s → isPairAt s i ≡ true → readingAt s i ≡ record { token = pairToken (getD s i 0) (getD s (i + 1) 0); next = i + 2 }
@@ -71,15 +71,13 @@ in-enough : (n m : ℕ) (s : List ℕ) (i : ℕ) → length s ≤ i + n → leng
 in-enough zero m s i h k = in-over zero s i (omega arith) ∙ sym (in-over m s i (omega arith))
 in-enough (suc n) zero s i h k = in-over (suc n) s i (omega arith) ∙ sym (in-over zero s i (omega arith))
 in-enough (suc n) (suc m) s i h k =
-    by-test (ltb i (length s))
+    by-le (length s) i
+    (λ over. in-over (suc n) s i over ∙ sym (in-over (suc m) s i over))
     (λ e.
-    let o = next-on s i (ltb-true i (length s) e) in
+    let o = next-on s i e in
     by-test (isRowEnd (tokenAt s i))
     (λ f. in-end s i n f ∙ sym (in-end s i m f))
     (λ f. in-more s i n f ∙ in-enough n m s (nextAt s i) (omega arith) (omega arith) ∙ sym (in-more s i m f)))
-    (λ e.
-    let over = ltb-false i (length s) e in
-    in-over (suc n) s i over ∙ sym (in-over (suc m) s i over))
 
 -- the position after a row, by the first token of the row
 pub row-step : (s : List ℕ) (i : ℕ) → i < length s → afterRowAt s i ≡ cond (isRowEnd (tokenAt s i)) (nextAt s i) (afterRowAt s (nextAt s i))

@@ -6,7 +6,7 @@ use native.Mathlib.Nat.{not-suc-le-zero}
 use mathlib.Core.Path.{_≡_, refl, ap, _∙_}
 use mathlib.Core.Bool.{Bool, true, false, cond}
 use mathlib.Core.List.{List, [], _∷_, _++_, map, flatMap}
-use lib.Dec.{leb, eqb, ltb}
+use lib.Dec.{eqb, ltb}
 use lib.ListN.{length, replicate, length-append, length-map, length-take, length-replicate}
 use borrow.Author.Tests.{leb-true}
 use Rattle.meaning.specs.declared.Pen.{Pen}
@@ -16,7 +16,7 @@ use Rattle.meaning.specs.Looks.{lookCount, pack, unpack}
 use Rattle.meaning.specs.Refusals.{isGood}
 use Rattle.meaning.specs.Codes.{tokens, takesCell}
 use Rattle.meaning.specs.Rows.{isDouble, rows, linesOf, rowCount, rowLimit, isShort, rowsFit, textRule}
-use Rattle.meaning.specs.Cells.{Cell, points, newPen, penAfter, cellsOf, cellsFrom, rowStart, cellsOfRow, penAfterRow, cellRows, isBlankOnBlack, trimFront, beforeTrimmed, trimBack, shown}
+use Rattle.meaning.specs.Cells.{Cell, points, newPen, penAfter, cellsOf, cellsFrom, rowStart, cellsOfRow, penAfterRow, cellRows, shown}
 use Rattle.meaning.specs.Spans.{lookOf, uniform, spansFrom, spans}
 use Rattle.meaning.specs.Gsi.{teletext, formatOf, blockCount, isDigit, valueFrom, tnb, fileRule}
 use Rattle.meaning.specs.declared.Time.{Time}
@@ -29,11 +29,11 @@ use Rattle.meaning.specs.Document.Piece.{span, br}
 use Rattle.meaning.specs.Document.Alignment.{left, centre, right}
 use Rattle.meaning.specs.Conversion.{spanOf, rowSpans, laterRows, rowPieces, fillers, paragraphOf, documentOf}
 use Rattle.meaning.specs.Profile.{startsWith, spanElements}
-use Rattle.meaning.proofs.Logic.{by-test, and-parts}
-use Rattle.meaning.proofs.ListLaws.{All, Any, any-blocks, all-copies, all-map, join-append, test-split}
+use Rattle.meaning.proofs.Logic.{by-test, by-cond, and-parts, between}
+use Rattle.meaning.proofs.ListLaws.{All, Any, any-blocks, all-of, all-copies, all-map, join-append, test-split}
 use Rattle.meaning.proofs.RefusalLaws.{unbroken}
 use Rattle.meaning.proofs.ListLaws.All.{nil, cons}
-use Rattle.laws.proofs.Trimming.{front-cut, front-kept, last-cut, last-kept}
+use Rattle.laws.proofs.Trimming.{shown-bound}
 use Rattle.laws.proofs.Pieces.{fillersOf, pieces-are}
 use Rattle.laws.proofs.Elements.{elements-are-spans}
 use Rattle.laws.proofs.Walk.{Made, Held}
@@ -46,7 +46,7 @@ tens (suc n) b = tens n (10 * b)
 
 digit-bound : (c : ℕ) → isDigit c ≡ true → c - 48 ≤ 9
 unfolding isDigit
-digit-bound c e = omega (arith, leb-true c 57 (and-parts (leb 48 c) (leb c 57) e .1))
+digit-bound c e = omega (arith, between 48 57 c e)
 
 value-bound : (n v b : ℕ) (cs : List ℕ) → length cs ≤ n → all isDigit cs ≡ true → v < b → valueFrom v cs < tens n b
 unfolding valueFrom
@@ -76,18 +76,13 @@ module _ (mode : ℕ) (file : List ℕ) (e : isGood (fileRule mode file) ≡ tru
       )
 
 -- what is joined, by a bound on each part
-every : {A : Type 0} {P : A → Type 0} → ((x : A) → P x) → (xs : List A) → All P xs
-every h [] = nil
-every h (x ∷ xs) = cons (h x) (every h xs)
-
 join-bound : {A : Type 0} (f : A → List ℕ) (n : ℕ) {xs : List A} → All (λ (x : A). length (f x) ≤ n) xs → length (flatMap f xs) ≤ n * length xs
 unfolding flatMap
 join-bound f n nil = omega arith
 join-bound f n (cons h k) = simp length-append (omega (arith, join-bound f n k))
 
 either-bound : (n : ℕ) (b : Bool) (x y : List ℕ) → length x ≤ n → length y ≤ n → length (cond b x y) ≤ n
-either-bound n true x y h k = h
-either-bound n false x y h k = k
+either-bound n = by-cond (λ (l : List ℕ). length l ≤ n)
 
 -- numbers and characters
 digits-length : (k n : ℕ) → length (digits k n) ≡ k
@@ -133,8 +128,8 @@ span-bound g =
     (omega (
       arith,
       digits-length 3 (pack (lookOf g)),
-      join-bound escaped 5 (every escaped-bound ps),
-      join-bound points 1 (every points-bound g),
+      join-bound escaped 5 (all-of escaped-bound ps),
+      join-bound points 1 (all-of points-bound g),
     ))
 
 -- the bytes of pieces
@@ -153,22 +148,6 @@ cells-length p (t ∷ ts) =
     (λ e. rw (e, keep) (ap suc (cells-length (penAfter t p) ts)))
     (λ e. rw (e, keep) (cells-length (penAfter t p) ts))
 
-front-bound : (cs : List Cell) → length (trimFront cs) ≤ length cs
-front-bound [] = unfold trimFront in omega arith
-front-bound (c ∷ cs) =
-    by-test (isBlankOnBlack c)
-    (λ e. rw (front-cut c cs e) (omega (arith, front-bound cs)))
-    (λ e. rw (front-kept c cs e) (omega arith))
-
-last-bound : (c : Cell) (cs : List Cell) → length (beforeTrimmed c cs) ≤ suc (length cs)
-last-bound c [] = by-test (isBlankOnBlack c) (λ e. rw (last-cut c e) (omega arith)) (λ e. rw (last-kept c e) (omega arith))
-last-bound c (d ∷ ds) = unfold beforeTrimmed in omega arith
-
-back-bound : (cs : List Cell) → length (trimBack cs) ≤ length cs
-unfolding trimBack
-back-bound [] = omega arith
-back-bound (c ∷ cs) = omega (arith, last-bound c (trimBack cs), back-bound cs)
-
 from-bound : (cur cs : List Cell) → size (map span (map spanOf (spansFrom cur cs))) ≤ 32 + 5 * length cur + 37 * length cs
 unfolding spansFrom flatMap
 from-bound cur [] = simp length-append (omega (arith, span-bound cur))
@@ -183,15 +162,14 @@ spans-size [] = omega arith
 spans-size (c ∷ cs) = omega (arith, from-bound (c ∷ []) cs)
 
 row-bound : (p : Pen) (r : List Token) → isShort r ≡ true → size (map span (rowSpans (cellsOfRow p r))) ≤ 2368
-unfolding isShort rowSpans shown
+unfolding isShort rowSpans
 row-bound p r e =
     let cs = cellsOfRow p r in
     omega (
       arith,
       leb-true (length (keep takesCell r)) rowLimit e,
       cells-length (rowStart r p) r,
-      front-bound cs,
-      back-bound (trimFront cs),
+      shown-bound cs,
       spans-size (shown cs),
     )
 
@@ -242,27 +220,31 @@ unfolding linesOf
 lines-least true n = omega arith
 lines-least false n = omega arith
 
-module _ (f : Format) (first : Header) (ts : List Token) (place : ℕ) (e : isGood (textRule f place (first .vp) ts) ≡ true) where
-  rows-fit : (all isShort (rows (f .mode) ts) ≡ true) × (first .vp + linesOf (isDouble ts) (rowCount (rows (f .mode) ts)) .0 ≤ f .screen .end)
-  unfolding textRule rowsFit
-  rows-fit =
-      let r = and-parts _ _ (unbroken _ _ _ _ (unbroken _ _ _ _ (unbroken _ _ _ _ e .1) .1) .0) in
-      (r .0, leb-true _ (f .screen .end) (r .1))
+pub rows-fit :
+    (f : Format) (place vp : ℕ) (ts : List Token) → isGood (textRule f place vp ts) ≡ true
+    → (all isShort (rows (f .mode) ts) ≡ true) × (vp + linesOf (isDouble ts) (rowCount (rows (f .mode) ts)) .0 ≤ f .screen .end)
+unfolding textRule rowsFit
+rows-fit f place vp ts e =
+    let r = and-parts _ _ (unbroken _ _ _ _ (unbroken _ _ _ _ (unbroken _ _ _ _ e .1) .1) .0) in
+    (r .0, leb-true _ (f .screen .end) (r .1))
 
-  pieces-bound : f .screen .end ≤ 24 → size (paragraphOf f (subtitleOf (f .mode) first ts) .pieces) ≤ 59900
-  unfolding subtitleOf rowCount fillers
-  pieces-bound h =
-      let s = subtitleOf (f .mode) first ts in
-      rw (pieces-are f s)
-      (omega (
-        arith,
-        rows-fit,
-        size-append (rowPieces (s .rows)) (replicate (fillersOf f s) br),
-        rows-later (s .rows),
-        later-bound (newPen (isDouble ts)) (rows (f .mode) ts) (rows-fit .0),
-        fillers-bound (fillersOf f s),
-        lines-least (isDouble ts) (length (rows (f .mode) ts)),
-      ))
+pieces-bound :
+    (f : Format) (first : Header) (ts : List Token) (place : ℕ) → isGood (textRule f place (first .vp) ts) ≡ true → f .screen .end ≤ 24
+    → size (paragraphOf f (subtitleOf (f .mode) first ts) .pieces) ≤ 59900
+unfolding subtitleOf rowCount fillers
+pieces-bound f first ts place e h =
+    let s = subtitleOf (f .mode) first ts in
+    let fit = rows-fit f place (first .vp) ts e in
+    rw (pieces-are f s)
+    (omega (
+      arith,
+      fit,
+      size-append (rowPieces (s .rows)) (replicate (fillersOf f s) br),
+      rows-later (s .rows),
+      later-bound (newPen (isDouble ts)) (rows (f .mode) ts) (fit .0),
+      fillers-bound (fillersOf f s),
+      lines-least (isDouble ts) (length (rows (f .mode) ts)),
+    ))
 
 made-bound :
     {Block : List ℕ → Type 0} {f : Format} → f .screen .end ≤ 24 → (s : Subtitle) → Made Block f s
@@ -308,7 +290,7 @@ unfolding render joined beforeRate beforeStyles beforeParagraphs afterParagraphs
 render-bound d =
     let looks = looksUsed (d .paragraphs) in
     simp length-append
-    (omega (arith, digits-length 2 (d .rate), join-bound writeStyle 100 (every style-bound looks), looks-bound (d .paragraphs)))
+    (omega (arith, digits-length 2 (d .rate), join-bound writeStyle 100 (all-of style-bound looks), looks-bound (d .paragraphs)))
 
 -- a tt:span element begins at a byte of its own
 elements-bound : (s : List ℕ) → spanElements s ≤ length s

@@ -2,9 +2,9 @@
 -- Assumes nothing.
 use Prim.Native.Nat.{ℕ, zero, suc, _+_, _*_}
 use native.Mathlib.Omega.{arith}
-use mathlib.Core.Path.{_≡_, refl, ap}
+use mathlib.Core.Path.{_≡_, refl, sym, ap, subst, _∙_}
 use mathlib.Core.Bool.{Bool, true, false}
-use mathlib.Core.List.{List, [], _∷_, _++_, map, flatMap}
+use mathlib.Core.List.{List, [], _∷_, _++_, map, append-assoc, flatMap, flatten}
 use lib.Dec.{eqb, ltb}
 use lib.ListN.{getD}
 use borrow.Author.Tests.{ltb-true}
@@ -15,22 +15,21 @@ use Rattle.meaning.specs.declared.Pen.{Pen}
 use Rattle.meaning.specs.Lists.{all}
 use Rattle.meaning.specs.Tables.{latinTable, composedTable}
 use Rattle.meaning.specs.Characters.{latin, accent, letter, composed}
-use Rattle.meaning.specs.Codes.{isControl, characterOf, codeToken, pairToken, isAccent, tokens, isRowEnd, takesCell}
-use Rattle.meaning.specs.Rows.{splitRows, breaksPaired, pairedFrom, rowsOf, rows}
+use Rattle.meaning.specs.Codes.{isControl, characterOf, codeToken, pairToken, isAccent, tokens, takesCell}
+use Rattle.meaning.specs.Rows.{breaksPaired, rows}
 use Rattle.meaning.specs.Cells.{Cell, points, glyphs, cellCharacter, controlHere, controlNext, lookHere, lookNext, newPen, cellOf, penAfter, cellsOf, cellsFrom, rowStart, penAfterRow, cellRows, isBlank}
 use Rattle.meaning.specs.Spans.{foregroundOf, lookOf, uniform, spansFrom, spans}
 use Rattle.meaning.specs.Profile.{isScalar}
 use Rattle.meaning.proofs.Logic.{by-test}
-use Rattle.meaning.proofs.ListLaws.{All, all-append, all-onto, test-split}
+use Rattle.meaning.proofs.ListLaws.{All, all-append, all-left, all-right, all-at, all-so, all-tested, test-all}
 use Rattle.meaning.proofs.ListLaws.All.{nil, cons}
 use Rattle.meaning.proofs.LookLaws.{ThreeBits, white-bits, blend-bits}
+use Rattle.meaning.proofs.RowLaws.{rows-tested}
 use Rattle.meaning.proofs.Tokens.{tokens-pair, tokens-code}
 
 -- the tables hold code points that UTF-8 writes, by one computed test
 scalar-at : (xs : List ℕ) (k : ℕ) → all isScalar xs ≡ true → isScalar (getD xs k 0) ≡ true
-scalar-at [] k e = unfold isScalar in refl
-scalar-at (x ∷ xs) zero e = test-split isScalar x xs e .0
-scalar-at (x ∷ xs) (suc k) e = scalar-at xs k (test-split isScalar x xs e .1)
+scalar-at xs k e = all-at (all-tested isScalar xs e) 0 (unfold isScalar in refl) k
 
 tables : (all isScalar latinTable ≡ true) × (all isScalar composedTable ≡ true)
 unfolding all isScalar latinTable composedTable
@@ -46,25 +45,28 @@ composed-scalar zero l = unfold isScalar in refl
 composed-scalar (suc a) zero = unfold isScalar in refl
 composed-scalar (suc a) (suc l) = scalar-at composedTable (52 * a + l) (tables .1)
 
+abbrev isWritable : Token → Bool
+isWritable (Character p) = isScalar p
+isWritable (Control c) = true
+isWritable RowEnd = true
+isWritable Unlisted = true
+
 abbrev Writable : Token → Type 0
-Writable (Character p) = isScalar p ≡ true
-Writable (Control c) = Unit {0}
-Writable RowEnd = Unit {0}
-Writable Unlisted = Unit {0}
+Writable t = isWritable t ≡ true
 
 character-writable : (n : ℕ) → isScalar n ≡ true → Writable (characterOf n)
 unfolding characterOf
-character-writable zero h = tt
+character-writable zero h = refl
 character-writable (suc n) h = h
 
 code-writable : (c : ℕ) → Writable (codeToken c)
 unfolding codeToken
 code-writable c =
     by-test (eqb c 138)
-    (λ e. rw (e, codeToken) tt)
+    (λ e. rw (e, codeToken))
     (λ e.
     by-test (isControl c)
-    (λ f. rw (e, f, codeToken) tt)
+    (λ f. rw (e, f, codeToken))
     (λ f. rw (e, f, codeToken) (character-writable (latin c) (latin-scalar c))))
 
 pair-writable : (a c : ℕ) → Writable (pairToken a c)
@@ -79,34 +81,11 @@ tokens-writable (c ∷ d ∷ cs) =
     (λ e. rw (tokens-pair c d cs e) (cons (pair-writable c d) (tokens-writable cs)))
     (λ e. rw (tokens-code c d cs e) (cons (code-writable c) (tokens-writable (d ∷ cs))))
 
--- a property of all tokens holds in every row
-module _ {P : Token → Type 0} where
-  split-all : (ts : List Token) → All P ts → All (All P) (splitRows ts)
-  unfolding splitRows
-  split-all [] h = cons nil nil
-  split-all (t ∷ ts) (cons p h) =
-      by-test (isRowEnd t)
-      (λ e. rw (e, splitRows) (cons nil (split-all ts h)))
-      (λ e. rw (e, splitRows) (all-onto t p (split-all ts h)))
-
-  paired-all : (second : Bool) (ts : List Token) → All P ts → All P (pairedFrom second ts)
-  unfolding pairedFrom
-  paired-all second [] h = nil
-  paired-all true (t ∷ ts) (cons p h) =
-      by-test (isRowEnd t)
-      (λ e. rw (e, pairedFrom) (paired-all false ts h))
-      (λ e. rw (e, pairedFrom) (cons p (paired-all false ts h)))
-  paired-all false (t ∷ ts) (cons p h) =
-      by-test (isRowEnd t)
-      (λ e. rw (e, pairedFrom) (cons p (paired-all true ts h)))
-      (λ e. rw (e, pairedFrom) (cons p (paired-all false ts h)))
-
-  rows-all : (mode : ℕ) (ts : List Token) → All P ts → All (All P) (rows mode ts)
-  unfolding rowsOf
-  rows-all mode ts h =
-      by-test (breaksPaired mode ts)
-      (λ e. rw e (split-all (pairedFrom false ts) (paired-all false ts h)))
-      (λ e. rw e (split-all ts h))
+rows-writable : (mode : ℕ) (text : List ℕ) → All (All Writable) (rows mode (tokens text))
+rows-writable mode text =
+    let ts = tokens text in
+    let tested = rows-tested isWritable refl (breaksPaired mode ts) ts ∙ test-all isWritable (tokens-writable text) in
+    all-so (all-tested isWritable) (all-tested (all isWritable) (rows mode ts) tested)
 
 here-bits : (t : Token) (l : Look) → ThreeBits l → ThreeBits (lookHere t l)
 unfolding lookHere controlHere
@@ -182,22 +161,30 @@ rows-of p (cons {x = r} w h) = cons (cells-sound (rowStart r p) r (start-bits r 
 
 -- the cells of every row of a text
 pub rows-sound : (mode : ℕ) (p : Pen) (text : List ℕ) → All (All Sound) (cellRows p (rows mode (tokens text)))
-rows-sound mode p text = rows-of p (rows-all mode (tokens text) (tokens-writable text))
+rows-sound mode p text = rows-of p (rows-writable mode text)
 
--- a property of all cells holds in every span
-module _ {P : Cell → Type 0} where
-  from-all : (cur cs : List Cell) → All P cur → All P cs → All (All P) (spansFrom cur cs)
-  unfolding spansFrom
-  from-all cur [] k h = cons k nil
-  from-all cur (c ∷ cs) k (cons p h) =
-      by-test (uniform (cur ++ (c ∷ [])))
-      (λ e. rw (e, spansFrom) (from-all (cur ++ (c ∷ [])) cs (all-append k (cons p nil)) h))
-      (λ e. rw (e, spansFrom) (cons k (from-all (c ∷ []) cs (cons p nil) h)))
+-- spans together are the cells
+from-flat : (cur cs : List Cell) → flatten (spansFrom cur cs) ≡ cur ++ cs
+unfolding flatten spansFrom
+from-flat cur [] = refl
+from-flat cur (c ∷ cs) =
+    by-test (uniform (cur ++ (c ∷ [])))
+    (λ e. rw (e, spansFrom) (from-flat (cur ++ (c ∷ [])) cs ∙ append-assoc cur (c ∷ []) cs))
+    (λ e. rw (e, spansFrom) (ap (λ (l : List Cell). cur ++ l) (from-flat (c ∷ []) cs)))
 
-  pub spans-all : (cs : List Cell) → All P cs → All (All P) (spans cs)
-  unfolding spans
-  spans-all [] h = nil
-  spans-all (c ∷ cs) (cons p h) = from-all (c ∷ []) cs (cons p nil) h
+pub spans-flat : (cs : List Cell) → flatten (spans cs) ≡ cs
+unfolding spans flatten
+spans-flat [] = refl
+spans-flat (c ∷ cs) = from-flat (c ∷ []) cs
+
+-- so a property of all cells holds in every span
+all-parts : {A : Type 0} {P : A → Type 0} (xss : List (List A)) → All P (flatten xss) → All (All P) xss
+unfolding flatten
+all-parts [] h = nil
+all-parts (xs ∷ xss) h = cons (all-left xs (flatten xss) h) (all-parts xss (all-right xs (flatten xss) h))
+
+pub spans-all : {P : Cell → Type 0} (cs : List Cell) → All P cs → All (All P) (spans cs)
+spans-all {P} cs h = all-parts (spans cs) (subst (All P) (sym (spans-flat cs)) h)
 
 -- the look of a span
 foreground-bits : (cs : List Cell) → All Sound cs → ThreeBits (foregroundOf cs)

@@ -4,7 +4,7 @@ use Prim.Native.Nat.{ℕ, zero, suc, _+_, _/_, _<_}
 use native.Mathlib.Omega.{arith}
 use native.Mathlib.Nat.{zero-add}
 use mathlib.Core.Path.{_≡_, refl, sym, ap, _∙_}
-use mathlib.Core.Bool.{Bool, true, false, cond}
+use mathlib.Core.Bool.{Bool}
 use mathlib.Core.List.{List, [], _∷_, _++_, append-assoc, append-nil, flatMap}
 use lib.Dec.{ltb, eqb}
 use lib.ListN.{length, length-append}
@@ -15,7 +15,7 @@ use Rattle.meaning.specs.Document.{Span, Piece, Alignment, Paragraph, Document,
 use Rattle.meaning.specs.Document.Piece.{span, br}
 use Rattle.meaning.specs.Document.Alignment.{left, centre, right}
 use Rattle.meaning.specs.Profile.{startsWith, spanElements}
-use Rattle.meaning.proofs.Logic.{by-test}
+use Rattle.meaning.proofs.Logic.{by-test, by-cond}
 use Rattle.meaning.proofs.ListLaws.{All, all-append}
 use Rattle.meaning.proofs.ListLaws.All.{nil, cons}
 
@@ -24,33 +24,33 @@ unfoldable pub countSpans : List Piece → ℕ
 countSpans ps = length (looksOf ps)
 
 -- bytes that hold n elements, whatever follows
-record Holds (n : ℕ) (x : List ℕ) : Type 0 where
+record HasSpans (n : ℕ) (x : List ℕ) : Type 0 where
   law : (s : List ℕ) → spanElements (x ++ s) ≡ n + spanElements s
 
 infixr 65 _&_
-_&_ : {m n : ℕ} {x y : List ℕ} → Holds m x → Holds n y → Holds (m + n) (x ++ y)
+_&_ : {m n : ℕ} {x y : List ℕ} → HasSpans m x → HasSpans n y → HasSpans (m + n) (x ++ y)
 _&_ {m} {n} {x} {y} p q =
     record { law = λ s. ap spanElements (append-assoc x y s) ∙ p .law (y ++ s) ∙ omega (arith, q .law s) }
 
-num : {m n : ℕ} {x : List ℕ} → m ≡ n → Holds m x → Holds n x
+num : {m n : ℕ} {x : List ℕ} → m ≡ n → HasSpans m x → HasSpans n x
 num e t = rw e at t
 
-nothing : Holds 0 []
+nothing : HasSpans 0 []
 nothing = record { law = λ s. sym (zero-add _) }
 
 -- a fixed text, by computing
-fixed : (x : List ℕ) → ((s : List ℕ) → spanElements (x ++ s) ≡ spanElements s) → Holds 0 x
+fixed : (x : List ℕ) → ((s : List ℕ) → spanElements (x ++ s) ≡ spanElements s) → HasSpans 0 x
 fixed x h = record { law = λ s. h s ∙ sym (zero-add _) }
 
 -- bytes other than <
 abbrev Plain : ℕ → Type 0
 Plain b = 60 ≡ b → ⊥
 
-byte : (b : ℕ) → Plain b → Holds 0 (b ∷ [])
+byte : (b : ℕ) → Plain b → HasSpans 0 (b ∷ [])
 unfolding spanElements startsWith bytes
 byte b h = record { law = λ s. rw (ne-eqb 60 b h, spanElements, startsWith) (sym (zero-add _)) }
 
-plain : {x : List ℕ} → All Plain x → Holds 0 x
+plain : {x : List ℕ} → All Plain x → HasSpans 0 x
 plain nil = nothing
 plain (cons h k) = byte _ h & plain k
 
@@ -68,35 +68,19 @@ plain-zeros (cons {x = d} h (cons {x = e} k l)) =
     (λ f. rw (f, withoutZeros) (plain-zeros (cons k l)))
     (λ f. rw (f, withoutZeros) (cons h (cons k l)))
 
-high : (b : ℕ) → 60 < b → Plain b
-high b h z = omega arith
-
 plain-utf8 : (p : ℕ) → Plain p → All Plain (utf8 p)
 unfolding utf8
 plain-utf8 p h =
-    by-test (ltb p 128)
-    (λ e. rw e (cons h nil))
-    (λ e.
-    by-test (ltb p 2048)
-    (λ f. rw (e, f) (two _ _))
-    (λ f. by-test (ltb p 65536) (λ g. rw (e, f, g) (three _ _ _)) (λ g. rw (e, f, g) (four _ _ _ _))))
-  where
-    tail : (a : ℕ) → Plain (128 + a)
-    tail a = high (128 + a) (omega arith)
+    by-cond (All Plain) (ltb p 128) _ _ (cons h nil)
+    (by-cond (All Plain) (ltb p 2048) _ _ (cons (λ z. omega arith) (cons (λ z. omega arith) nil))
+    (by-cond (All Plain) (ltb p 65536) _ _
+    (cons (λ z. omega arith) (cons (λ z. omega arith) (cons (λ z. omega arith) nil)))
+    (cons (λ z. omega arith) (cons (λ z. omega arith) (cons (λ z. omega arith) (cons (λ z. omega arith) nil))))))
 
-    two : (a b : ℕ) → All Plain ((192 + a) ∷ (128 + b) ∷ [])
-    two a b = cons (high (192 + a) (omega arith)) (cons (tail b) nil)
-
-    three : (a b c : ℕ) → All Plain ((224 + a) ∷ (128 + b) ∷ (128 + c) ∷ [])
-    three a b c = cons (high (224 + a) (omega arith)) (cons (tail b) (cons (tail c) nil))
-
-    four : (a b c d : ℕ) → All Plain ((240 + a) ∷ (128 + b) ∷ (128 + c) ∷ (128 + d) ∷ [])
-    four a b c d = cons (high (240 + a) (omega arith)) (cons (tail b) (cons (tail c) (cons (tail d) nil)))
-
-in-digits : (k n : ℕ) → Holds 0 (digits k n)
+in-digits : (k n : ℕ) → HasSpans 0 (digits k n)
 in-digits k n = plain (plain-digits k n)
 
-in-escaped : (p : ℕ) → Holds 0 (escaped p)
+in-escaped : (p : ℕ) → HasSpans 0 (escaped p)
 unfolding escaped spanElements startsWith bytes
 in-escaped p =
     by-test (eqb p 38)
@@ -109,44 +93,44 @@ in-escaped p =
     (λ g. rw (e, f, g) (fixed (bytes "&gt;") (λ s. refl)))
     (λ g. rw (e, f, g) (plain (plain-utf8 p (λ z. eqb-false p 60 f (sym z)))))))
 
-in-each : {A : Type 0} (f : A → List ℕ) (xs : List A) → ((x : A) → Holds 0 (f x)) → Holds 0 (flatMap f xs)
+in-each : {A : Type 0} (f : A → List ℕ) (xs : List A) → ((x : A) → HasSpans 0 (f x)) → HasSpans 0 (flatMap f xs)
 unfolding flatMap
 in-each f [] h = nothing
 in-each f (x ∷ xs) h = h x & in-each f xs h
 
-in-style-name : (look : ℕ) → Holds 0 (styleName look)
+in-style-name : (look : ℕ) → HasSpans 0 (styleName look)
 unfolding styleName spanElements startsWith bytes
 in-style-name look = fixed (bytes "s") (λ s. refl) & in-digits 3 look
 
-opening : Holds 1 (bytes "<tt:span style=\"")
+opening : HasSpans 1 (bytes "<tt:span style=\"")
 unfolding spanElements startsWith bytes
 opening = record { law = λ s. omega arith }
 
-in-span : (s : Span) → Holds 1 (writeSpan s)
+in-span : (s : Span) → HasSpans 1 (writeSpan s)
 unfolding writeSpan joined spanElements startsWith bytes
 in-span s =
     opening & in-style-name (s .look) & fixed (bytes "\">") (λ s. refl) & in-each escaped (s .characters) in-escaped
     & fixed (bytes "</tt:span>") (λ s. refl)
 
-in-pieces : (ps : List Piece) → Holds (countSpans ps) (flatMap writePiece ps)
+in-pieces : (ps : List Piece) → HasSpans (countSpans ps) (flatMap writePiece ps)
 unfolding flatMap countSpans looksOf writePiece spanElements startsWith bytes
 in-pieces [] = nothing
 in-pieces (span s ∷ ps) = num (omega arith) (in-span s & in-pieces ps)
 in-pieces (br ∷ ps) = num (omega arith) (fixed (bytes "<tt:br/>") (λ s. refl) & in-pieces ps)
 
-in-time : (t : Time) → Holds 0 (writeTime t)
+in-time : (t : Time) → HasSpans 0 (writeTime t)
 unfolding writeTime joined spanElements startsWith bytes
 in-time t =
     let colon = fixed (bytes ":") (λ s. refl) in
     in-digits 2 (t .hours) & colon & in-digits 2 (t .minutes) & colon & in-digits 2 (t .seconds) & colon & in-digits 2 (t .frames)
 
-in-alignment : (a : Alignment) → Holds 0 (alignmentName a)
+in-alignment : (a : Alignment) → HasSpans 0 (alignmentName a)
 unfolding alignmentName spanElements startsWith bytes
 in-alignment left = fixed _ (λ s. refl)
 in-alignment centre = fixed _ (λ s. refl)
 in-alignment right = fixed _ (λ s. refl)
 
-in-paragraph : (p : Paragraph) → Holds (countSpans (p .pieces)) (writeParagraph p)
+in-paragraph : (p : Paragraph) → HasSpans (countSpans (p .pieces)) (writeParagraph p)
 unfolding writeParagraph joined decimal spanElements startsWith bytes
 in-paragraph p =
     num (omega arith)
@@ -155,57 +139,40 @@ in-paragraph p =
     & fixed (bytes "\" begin=\"") (λ s. refl) & in-time (p .begin) & fixed (bytes "\" end=\"") (λ s. refl) & in-time (p .end)
     & fixed (bytes "\">") (λ s. refl) & in-pieces (p .pieces) & fixed (bytes "</tt:p>\n") (λ s. refl))
 
-in-paragraphs : (ps : List Paragraph) → Holds (documentSpans ps) (flatMap writeParagraph ps)
+in-paragraphs : (ps : List Paragraph) → HasSpans (documentSpans ps) (flatMap writeParagraph ps)
 unfolding flatMap documentSpans documentLooks countSpans
 in-paragraphs [] = nothing
 in-paragraphs (p ∷ ps) = num (sym (length-append (looksOf (p .pieces)) (documentLooks ps))) (in-paragraph p & in-paragraphs ps)
 
--- one of two fixed texts
-either : (b : Bool) (x y : List ℕ) → Holds 0 x → Holds 0 y → Holds 0 (cond b x y)
-either true x y p q = p
-either false x y p q = q
-
-in-channel : (bit : ℕ) → Holds 0 (channel bit)
+in-channel : (bit : ℕ) → HasSpans 0 (channel bit)
 unfolding channel spanElements startsWith bytes
-in-channel bit = either (eqb bit 0) _ _ (fixed (bytes "00") (λ s. refl)) (fixed (bytes "ff") (λ s. refl))
+in-channel bit = by-cond (HasSpans 0) (eqb bit 0) _ _ (fixed (bytes "00") (λ s. refl)) (fixed (bytes "ff") (λ s. refl))
 
-in-colour : (c : ℕ) → Holds 0 (colourName c)
+in-colour : (c : ℕ) → HasSpans 0 (colourName c)
 unfolding colourName joined spanElements startsWith bytes
 in-colour c = fixed (bytes "#") (λ s. refl) & in-channel _ & in-channel _ & in-channel _
 
-in-size : (double : Bool) → Holds 0 (sizeName double)
+in-size : (double : Bool) → HasSpans 0 (sizeName double)
 unfolding sizeName spanElements startsWith bytes
-in-size double = either double _ _ (fixed (bytes "1c 2c") (λ s. refl)) (fixed (bytes "1c 1c") (λ s. refl))
+in-size double = by-cond (HasSpans 0) double _ _ (fixed (bytes "1c 2c") (λ s. refl)) (fixed (bytes "1c 1c") (λ s. refl))
 
-in-style : (look : ℕ) → Holds 0 (writeStyle look)
+in-style : (look : ℕ) → HasSpans 0 (writeStyle look)
 unfolding writeStyle joined spanElements startsWith bytes
 in-style look =
     fixed (bytes "<tt:style xml:id=\"") (λ s. refl) & in-style-name look & fixed (bytes "\" tts:color=\"") (λ s. refl)
     & in-colour _ & fixed (bytes "\" tts:backgroundColor=\"") (λ s. refl) & in-colour _
     & fixed (bytes "\" tts:fontSize=\"") (λ s. refl) & in-size _ & fixed (bytes "\"/>\n") (λ s. refl)
 
-in-before-rate : Holds 0 beforeRate
-unfolding beforeRate spanElements startsWith bytes
-in-before-rate = fixed _ (λ s. refl)
+in-fixed : HasSpans 0 beforeRate × HasSpans 0 beforeStyles × HasSpans 0 beforeParagraphs × HasSpans 0 afterParagraphs
+unfolding beforeRate beforeStyles beforeParagraphs afterParagraphs spanElements startsWith bytes
+in-fixed = (fixed _ (λ s. refl), fixed _ (λ s. refl), fixed _ (λ s. refl), fixed _ (λ s. refl))
 
-in-before-styles : Holds 0 beforeStyles
-unfolding beforeStyles spanElements startsWith bytes
-in-before-styles = fixed _ (λ s. refl)
-
-in-before-paragraphs : Holds 0 beforeParagraphs
-unfolding beforeParagraphs spanElements startsWith bytes
-in-before-paragraphs = fixed _ (λ s. refl)
-
-in-after-paragraphs : Holds 0 afterParagraphs
-unfolding afterParagraphs spanElements startsWith bytes
-in-after-paragraphs = fixed _ (λ s. refl)
-
-in-document : (d : Document) → Holds (documentSpans (d .paragraphs)) (render d)
+in-document : (d : Document) → HasSpans (documentSpans (d .paragraphs)) (render d)
 unfolding render joined
 in-document d =
     num (omega arith)
-    (in-before-rate & in-digits 2 (d .rate) & in-before-styles & in-each writeStyle (looksUsed (d .paragraphs)) in-style
-    & in-before-paragraphs & in-paragraphs (d .paragraphs) & in-after-paragraphs)
+    (in-fixed .0 & in-digits 2 (d .rate) & in-fixed .1 & in-each writeStyle (looksUsed (d .paragraphs)) in-style
+    & in-fixed .2 & in-paragraphs (d .paragraphs) & in-fixed .3)
 
 pub elements-are-spans : (d : Document) → spanElements (render d) ≡ documentSpans (d .paragraphs)
 unfolding spanElements

@@ -67,9 +67,9 @@ count-later [] = refl
 count-later (r ∷ rs) = omega (arith, count-append (map span (rowSpans r)) (laterRows rs), count-row r, count-later rs)
 
 count-rows : (rs : List (List Cell)) → countSpans (rowPieces rs) ≡ sum ours rs
-unfolding rowPieces countSpans looksOf sum
+unfolding rowPieces laterRows countSpans looksOf sum
 count-rows [] = refl
-count-rows (r ∷ rs) = omega (arith, count-append (map span (rowSpans r)) (laterRows rs), count-row r, count-later rs)
+count-rows (r ∷ rs) = count-later (r ∷ rs)
 
 count-breaks : (n : ℕ) → countSpans (replicate n br) ≡ 0
 unfolding countSpans looksOf

@@ -13,7 +13,7 @@ use Rattle.meaning.specs.Looks.{shared, free}
 use Rattle.meaning.specs.Spans.{fits, foregroundOf, lookOf, uniform}
 use Rattle.meaning.proofs.LookLaws.{blend-shared, blend-free}
 use Rattle.meaning.proofs.Logic.{by-test, false-not-true, and-parts, and-true, or-second, or-true-left, or-true-right}
-use Rattle.meaning.proofs.ListLaws.{All, test-nil, test-cons, test-split}
+use Rattle.meaning.proofs.ListLaws.{All, all-so, all-tested, test-all}
 use Rattle.meaning.proofs.ListLaws.All.{nil, cons}
 
 -- what `fits` tests
@@ -34,12 +34,10 @@ fits-says l c e =
     record { shares = eqb-true _ _ (p .0); agrees = λ f. eqb-true _ _ (or-second (isBlank c) _ (p .1) f) }
 
 pub all-fit : {l : Look} {cs : List Cell} → All (Fits l) cs → all (fits l) cs ≡ true
-all-fit {l} nil = test-nil (fits l)
-all-fit {l} (cons f h) = test-cons (fits l) _ _ (fits-true f) (all-fit h)
+all-fit {l} h = test-all (fits l) (all-so (λ c f. fits-true f) h)
 
 pub all-say : (l : Look) (cs : List Cell) → all (fits l) cs ≡ true → All (Fits l) cs
-all-say l [] e = nil
-all-say l (c ∷ cs) e = let s = test-split (fits l) c cs e in cons (fits-says l c (s .0)) (all-say l cs (s .1))
+all-say l cs e = all-so (fits-says l) (all-tested (fits l) cs e)
 
 abbrev pub Blank : Cell → Type 0
 Blank c = isBlank c ≡ true
@@ -56,8 +54,7 @@ foreground-fits l (c ∷ cs) (cons f h) =
 -- cells that fit one look fit another of the same shared part, if what is left open agrees or all are blanks
 module _ (l m : Look) (s : shared m ≡ shared l) where
   refit-free : {cs : List Cell} → free m ≡ free l → All (Fits l) cs → All (Fits m) cs
-  refit-free e nil = nil
-  refit-free e (cons f h) = cons (record { shares = f .shares ∙ sym s; agrees = λ g. f .agrees g ∙ sym e }) (refit-free e h)
+  refit-free e h = all-so (λ c f. record { shares = f .shares ∙ sym s; agrees = λ g. f .agrees g ∙ sym e }) h
 
   pub refit-blank : {cs : List Cell} → All Blank cs → All (Fits l) cs → All (Fits m) cs
   refit-blank nil h = nil

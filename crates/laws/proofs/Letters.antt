@@ -6,15 +6,15 @@ use native.Mathlib.Nat.{le-of-suc-le-suc, not-suc-le-zero}
 use mathlib.Core.Path.{_≡_, refl}
 use mathlib.Core.Bool.{Bool, true, not, _&&_, _||_}
 use mathlib.Core.List.{List, [], _∷_}
-use mathlib.Core.Logic.{_⊎_, inl, inr}
+use mathlib.Core.Logic.{_⊎_, inl, inr, ⊎-elim}
 use lib.Dec.{T, leb, eqb}
 use lib.ListN.{length, getD}
-use borrow.Author.Tests.{eq-eqb, eqb-true, leb-true}
+use borrow.Author.Tests.{eq-eqb, eqb-true}
 use Rattle.meaning.specs.Lists.{all}
 use Rattle.meaning.specs.Tables.{composedTable}
 use Rattle.meaning.specs.Characters.{accents, marks, accent, letter, composed}
 use Rattle.laws.specs.Letters.{LettersRule}
-use Rattle.meaning.proofs.Logic.{and-parts, or-parts, not-both}
+use Rattle.meaning.proofs.Logic.{and-parts, or-parts, not-both, between}
 use Rattle.meaning.proofs.ListLaws.{test-at}
 
 inRange : ℕ → Bool
@@ -35,19 +35,14 @@ test = (refl, refl, refl)
 
 in-range : (x : ℕ) → inRange x ≡ true → (x ≡ 0) ⊎ ((192 ≤ x) × (x ≤ 7929))
 unfolding inRange
-in-range x e = cases (or-parts (eqb x 0) _ e)
-  where
-    cases : (eqb x 0 ≡ true) ⊎ ((leb 192 x && leb x 7929) ≡ true) → (x ≡ 0) ⊎ ((192 ≤ x) × (x ≤ 7929))
-    cases (inl f) = inl (eqb-true x 0 f)
-    cases (inr f) = let g = and-parts (leb 192 x) _ f in inr (leb-true 192 x (g .0), leb-true x 7929 (g .1))
+in-range x e = ⊎-elim (λ f. inl (eqb-true x 0 f)) (λ f. inr (between 192 7929 x f)) (or-parts (eqb x 0) _ e)
 
 unlike-at : (x : ℕ) (xs : List ℕ) → unlike x xs ≡ true → (k : ℕ) → k < length xs → x ≡ getD xs k 0 → x ≡ 0
 unfolding unlike
-unlike-at x xs e k h q = cases (or-parts (eqb x 0) _ e)
-  where
-    cases : (eqb x 0 ≡ true) ⊎ (all (λ y. not (eqb x y)) xs ≡ true) → x ≡ 0
-    cases (inl f) = eqb-true x 0 f
-    cases (inr f) = absurd (not-both (eqb x (getD xs k 0)) (eq-eqb _ _ q) (test-at (λ y. not (eqb x y)) xs 0 f k h))
+unlike-at x xs e k h q =
+    ⊎-elim (λ f. eqb-true x 0 f)
+    (λ f. absurd (not-both (eqb x (getD xs k 0)) (eq-eqb _ _ q) (test-at (λ y. not (eqb x y)) xs 0 f k h)))
+    (or-parts (eqb x 0) _ e)
 
 distinct-at : (xs : List ℕ) → distinct xs ≡ true → (i j : ℕ) → i < j → j < length xs → getD xs i 0 ≡ getD xs j 0 → getD xs i 0 ≡ 0
 unfolding distinct

@@ -1,11 +1,12 @@
 -- The document made of an accepted file's subtitles is one of the profile, for a file of bytes.
 -- Assumes nothing.
-use Prim.Native.Nat.{ℕ, zero, suc, _<_}
+use Prim.Native.Nat.{ℕ, zero, suc, _+_, _<_}
 use native.Mathlib.Omega.{arith}
 use mathlib.Core.Path.{_≡_, refl}
 use mathlib.Core.Bool.{true, false}
 use mathlib.Core.List.{List, [], _∷_, map}
 use lib.ListN.{getD, take, drop}
+use lib.Seq.{getD-drop}
 use borrow.Author.Tests.{lt-ltb, le-leb}
 use Rattle.meaning.specs.Lists.{all}
 use Rattle.meaning.specs.Looks.{lookCount, pack}
@@ -38,9 +39,7 @@ Bytes s = (i : ℕ) → getD s i 0 < 256
 
 -- blocks of a file of bytes are of bytes
 drop-bytes : (n : ℕ) (s : List ℕ) → Bytes s → Bytes (drop n s)
-drop-bytes zero s h i = h i
-drop-bytes (suc n) [] h i = h i
-drop-bytes (suc n) (x ∷ s) h i = drop-bytes n s (λ k. h (suc k)) i
+drop-bytes n s h i = rw (getD-drop n s i 0) (h (n + i))
 
 take-bytes : (n : ℕ) (s : List ℕ) → Bytes s → Bytes (take n s)
 take-bytes zero s h i = omega arith

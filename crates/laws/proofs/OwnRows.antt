@@ -3,7 +3,7 @@
 use Prim.Native.Nat.{ℕ, zero, suc}
 use mathlib.Core.Path.{_≡_, refl, sym, ap, subst, _∙_}
 use mathlib.Core.Bool.{true}
-use mathlib.Core.List.{List, [], _∷_, _++_, map, append-assoc}
+use mathlib.Core.List.{List, [], _∷_, _++_, map, append-assoc, flatten, tail}
 use lib.ListN.{getD, replicate}
 use Rattle.meaning.specs.declared.Look.{Look}
 use Rattle.meaning.specs.declared.Format.{Format}
@@ -18,29 +18,17 @@ use Rattle.meaning.specs.Conversion.{spanOf, rowSpans, laterRows, rowPieces, pa
 use Rattle.meaning.specs.Profile.{documentRows, spanCells, rowCells, SameCell, SameCells, subtitleRow, paragraphRow, Shows}
 use Rattle.meaning.specs.Profile.SameCells.{none, both}
 use Rattle.meaning.proofs.Logic.{by-test}
-use Rattle.meaning.proofs.ListLaws.{All, all-left, all-right, all-at}
+use Rattle.meaning.proofs.ListLaws.{All, all-at, at-copies}
 use Rattle.meaning.proofs.ListLaws.All.{nil, cons}
 use Rattle.laws.proofs.Pieces.{fillersOf, pieces-are}
 use Rattle.laws.proofs.Fitting.{Fits, all-say, one-uniform}
 use Rattle.laws.proofs.Trimming.{shown-nil, shown-twice, same-shown, all-shown}
 use Rattle.meaning.proofs.LookLaws.{ThreeBits, unpack-pack}
-use Rattle.laws.proofs.CellFacts.{Sound, glyphs-points, span-bits}
+use Rattle.laws.proofs.CellFacts.{Sound, glyphs-points, spans-flat, spans-all, span-bits}
 
--- spans: together they are the cells, and each is uniform
-flat : List (List Cell) → List Cell
-flat [] = []
-flat (g ∷ gs) = g ++ flat gs
-
+-- each span is uniform
 abbrev Uniform : List Cell → Type 0
 Uniform g = uniform g ≡ true
-
-from-flat : (cur cs : List Cell) → flat (spansFrom cur cs) ≡ cur ++ cs
-unfolding flat spansFrom
-from-flat cur [] = refl
-from-flat cur (c ∷ cs) =
-    by-test (uniform (cur ++ (c ∷ [])))
-    (λ e. rw (e, spansFrom) (from-flat (cur ++ (c ∷ [])) cs ∙ append-assoc cur (c ∷ []) cs))
-    (λ e. rw (e, spansFrom) (ap (λ (l : List Cell). cur ++ l) (from-flat (c ∷ []) cs)))
 
 from-uniform : (cur cs : List Cell) → Uniform cur → All Uniform (spansFrom cur cs)
 unfolding spansFrom
@@ -49,11 +37,6 @@ from-uniform cur (c ∷ cs) u =
     by-test (uniform (cur ++ (c ∷ [])))
     (λ e. rw (e, spansFrom) (from-uniform (cur ++ (c ∷ [])) cs e))
     (λ e. rw (e, spansFrom) (cons u (from-uniform (c ∷ []) cs (one-uniform c))))
-
-spans-flat : (cs : List Cell) → flat (spans cs) ≡ cs
-unfolding spans flat
-spans-flat [] = refl
-spans-flat (c ∷ cs) = from-flat (c ∷ []) cs
 
 spans-uniform : (cs : List Cell) → All Uniform (spans cs)
 unfolding spans
@@ -72,19 +55,17 @@ span-same :
 span-same l cs ds h nil r = r
 span-same l cs ds h (cons f k) r = both (fits-same l _ h f) (span-same l cs ds h k r)
 
-spans-same : (gs : List (List Cell)) → All Uniform gs → All Sound (flat gs) → SameCells (flat gs) (rowCells (map spanOf gs))
-unfolding flat rowCells spanCells spanOf uniform
+spans-same : (gs : List (List Cell)) → All Uniform gs → All (All Sound) gs → SameCells (flatten gs) (rowCells (map spanOf gs))
+unfolding flatten rowCells spanCells spanOf uniform
 spans-same [] u h = none
-spans-same (g ∷ gs) (cons u us) h =
-    let k = all-left g (flat gs) h in
-    rw (glyphs-points k)
-    (span-same (lookOf g) (flat gs) _ (span-bits g k) (all-say (lookOf g) g u) (spans-same gs us (all-right g (flat gs) h)))
+spans-same (g ∷ gs) (cons u us) (cons k h) =
+    rw (glyphs-points k) (span-same (lookOf g) (flatten gs) _ (span-bits g k) (all-say (lookOf g) g u) (spans-same gs us h))
 
 row-same : (row : List Cell) → All Sound row → SameCells (shown row) (rowCells (rowSpans row))
 unfolding rowSpans
 row-same row h =
     rw (spans-flat (shown row)) at
-    (spans-same (spans (shown row)) (spans-uniform (shown row)) (rw (spans-flat (shown row)) (all-shown row h)))
+    (spans-same (spans (shown row)) (spans-uniform (shown row)) (spans-all (shown row) (all-shown row h)))
 
 row-shows : (row : List Cell) → All Sound row → SameCells (shown row) (shown (rowCells (rowSpans row)))
 row-shows row h = rw (shown-twice row) at (same-shown (row-same row h))
@@ -108,28 +89,19 @@ later-then (r ∷ rs) n =
     (ap documentRows (append-assoc (map span (rowSpans r)) (laterRows rs) (replicate n br))
     ∙ spans-then (rowSpans r) _ _ (later-then rs n))
 
-empty-at : (n i : ℕ) → _≡_ {A = List Span} (getD (replicate n []) i []) []
-empty-at zero i = refl
-empty-at (suc n) zero = refl
-empty-at (suc n) (suc i) = empty-at n i
-
 empty-row : rowSpans [] ≡ []
 unfolding rowSpans spans
 empty-row = rw shown-nil
 
 rows-at : (rs : List (List Cell)) (n i : ℕ) → getD (map rowSpans rs ++ replicate n []) i [] ≡ rowSpans (getD rs i [])
-rows-at [] n i = empty-at n i ∙ sym empty-row
+rows-at [] n i = at-copies n i [] ∙ sym empty-row
 rows-at (r ∷ rs) n zero = refl
 rows-at (r ∷ rs) n (suc i) = rows-at rs n i
 
 pieces-at : (rs : List (List Cell)) (n i : ℕ) → getD (documentRows (rowPieces rs ++ replicate n br)) i [] ≡ rowSpans (getD rs i [])
-unfolding rowPieces
-pieces-at [] n i = rw (filler-rows n) (empty-at (suc n) i ∙ sym empty-row)
-pieces-at (r ∷ rs) n i =
-    ap (λ (l : List (List Span)). getD l i [])
-    (ap documentRows (append-assoc (map span (rowSpans r)) (laterRows rs) (replicate n br))
-    ∙ spans-then (rowSpans r) _ _ (later-then rs n))
-    ∙ rows-at (r ∷ rs) n i
+unfolding rowPieces laterRows documentRows
+pieces-at [] n i = rw (filler-rows n) (at-copies (suc n) i [] ∙ sym empty-row)
+pieces-at (r ∷ rs) n i = ap (λ (l : List (List Span)). getD (tail l) i []) (later-then (r ∷ rs) n) ∙ rows-at (r ∷ rs) n i
 
 paragraph-at : (f : Format) (s : Subtitle) (i : ℕ) → getD (documentRows (paragraphOf f s .pieces)) i [] ≡ rowSpans (getD (s .rows) i [])
 paragraph-at f s i = rw (pieces-are f s) (pieces-at (s .rows) (fillersOf f s) i)

@@ -1,15 +1,18 @@
 -- Shown cells: the trimming clause by clause, what is trimmed stays so, and cells that are the same are trimmed alike.
 -- Assumes nothing.
-use mathlib.Core.Path.{_≡_, refl, ap, _∙_}
+use native.Mathlib.Omega.{arith}
+use Prim.Native.Nat.{_≤_}
+use mathlib.Core.Path.{_≡_, refl, sym, ap, subst, _∙_}
 use mathlib.Core.Bool.{true, false}
-use mathlib.Core.List.{List, [], _∷_}
+use mathlib.Core.List.{List, [], _∷_, _++_}
+use lib.ListN.{length, take, drop, length-append, length-take, take-append-drop}
+use Rattle.meaning.specs.Lists.{takeWhile}
 use Rattle.meaning.specs.Cells.{Cell, isBlank, isBlankOnBlack, trimFront, beforeTrimmed, trimBack, shown}
 use Rattle.meaning.specs.Profile.{SameCell, SameCells}
 use Rattle.meaning.specs.Profile.SameCells.{none, both}
 use Rattle.meaning.proofs.Logic.{by-test}
 use Rattle.meaning.proofs.LookLaws.{same-blank, same-on-black}
-use Rattle.meaning.proofs.ListLaws.{All}
-use Rattle.meaning.proofs.ListLaws.All.{nil, cons}
+use Rattle.meaning.proofs.ListLaws.{All, all-left, all-right, while-on, while-off}
 
 pub front-cut : (c : Cell) (cs : List Cell) → isBlankOnBlack c ≡ true → trimFront (c ∷ cs) ≡ trimFront cs
 unfolding trimFront
@@ -26,6 +29,41 @@ last-cut c e = rw (e, beforeTrimmed)
 pub last-kept : (c : Cell) → isBlankOnBlack c ≡ false → beforeTrimmed c [] ≡ c ∷ []
 unfolding beforeTrimmed
 last-kept c e = rw (e, beforeTrimmed)
+
+-- what is trimmed stands at the front, and at the end
+pub front-split : (cs : List Cell) → cs ≡ takeWhile isBlankOnBlack cs ++ trimFront cs
+front-split [] = unfold takeWhile trimFront in refl
+front-split (c ∷ cs) =
+    by-test (isBlankOnBlack c)
+    (λ e. rw (while-on isBlankOnBlack c cs e, front-cut c cs e) (ap (λ (l : List Cell). c ∷ l) (front-split cs)))
+    (λ e. rw (while-off isBlankOnBlack c cs e, front-kept c cs e))
+
+back-onto : (c : Cell) (cs t : List Cell) → take (length t) cs ≡ t → take (length (beforeTrimmed c t)) (c ∷ cs) ≡ beforeTrimmed c t
+back-onto c cs [] h = by-test (isBlankOnBlack c) (λ e. rw (last-cut c e)) (λ e. rw (last-kept c e))
+back-onto c cs (d ∷ ds) h = unfold beforeTrimmed in ap (λ (l : List Cell). c ∷ l) h
+
+pub back-take : (cs : List Cell) → take (length (trimBack cs)) cs ≡ trimBack cs
+unfolding trimBack
+back-take [] = refl
+back-take (c ∷ cs) = back-onto c cs (trimBack cs) (back-take cs)
+
+-- so those shown are no more, and what holds of all cells holds of them
+pub shown-bound : (cs : List Cell) → length (shown cs) ≤ length cs
+unfolding shown
+shown-bound cs =
+    omega (
+      arith,
+      simp length-append at (ap length (front-split cs)),
+      simp length-take at (ap length (back-take (trimFront cs))),
+    )
+
+pub all-shown : {P : Cell → Type 0} (cs : List Cell) → All P cs → All P (shown cs)
+unfolding shown
+all-shown {P} cs h =
+    let t = trimFront cs in
+    let k = length (trimBack t) in
+    let front = all-right (takeWhile isBlankOnBlack cs) t (subst (All P) (front-split cs) h) in
+    subst (All P) (back-take t) (all-left (take k t) (drop k t) (subst (All P) (sym (take-append-drop k t)) front))
 
 -- trimming what is trimmed
 back-again : (c : Cell) (t : List Cell) → trimBack t ≡ t → trimBack (beforeTrimmed c t) ≡ beforeTrimmed c t
@@ -87,23 +125,3 @@ same-back (both s r) = same-last s (same-back r)
 pub same-shown : {cs ds : List Cell} → SameCells cs ds → SameCells (shown cs) (shown ds)
 unfolding shown
 same-shown r = same-back (same-front r)
-
--- a property of all cells holds of those shown
-module _ {P : Cell → Type 0} where
-  all-front : (cs : List Cell) → All P cs → All P (trimFront cs)
-  all-front [] h = unfold trimFront in nil
-  all-front (c ∷ cs) (cons p h) =
-      by-test (isBlankOnBlack c) (λ e. rw (front-cut c cs e) (all-front cs h)) (λ e. rw (front-kept c cs e) (cons p h))
-
-  all-last : (c : Cell) (cs : List Cell) → P c → All P cs → All P (beforeTrimmed c cs)
-  all-last c [] p h = by-test (isBlankOnBlack c) (λ e. rw (last-cut c e) nil) (λ e. rw (last-kept c e) (cons p nil))
-  all-last c (d ∷ ds) p h = unfold beforeTrimmed in cons p h
-
-  all-back : (cs : List Cell) → All P cs → All P (trimBack cs)
-  unfolding trimBack
-  all-back [] h = nil
-  all-back (c ∷ cs) (cons p h) = all-last c (trimBack cs) p (all-back cs h)
-
-  pub all-shown : (cs : List Cell) → All P cs → All P (shown cs)
-  unfolding shown
-  all-shown cs h = all-back (trimFront cs) (all-front cs h)

@@ -6,5 +6,6 @@ pub mod Logic
 pub mod ListLaws
 pub mod RefusalLaws
 pub mod LookLaws
+pub mod RowLaws
 pub mod Tokens
 pub mod Texts

@@ -9,8 +9,8 @@ use mathlib.Core.Bool.{Bool, true, false, _&&_, _||_, and-false, or-true}
 use mathlib.Core.List.{List, [], _∷_, _++_, map, append-assoc, flatMap}
 use lib.ListN.{length, getD, take, drop, replicate, length-take, drop-of-length-le}
 use lib.Seq.{drop-cons}
-use Rattle.meaning.specs.Lists.{all, any, takeWhile, ontoFirst}
-use Rattle.meaning.proofs.Logic.{by-test, false-not-true}
+use Rattle.meaning.specs.Lists.{all, any, takeWhile}
+use Rattle.meaning.proofs.Logic.{by-test, and-parts}
 
 -- tests over a list, one element at a time
 module _ {A : Type 0} (p : A → Bool) (x : A) (xs : List A) where
@@ -42,15 +42,11 @@ pub data All {A : Type 0} (P : A → Type 0) : List A → Type 0 where
   nil : All P []
   cons : {x : A} {xs : List A} → P x → All P xs → All P (x ∷ xs)
 
--- nothing is asked
-abbrev pub Any : List ℕ → Type 0
-Any b = Unit {0}
-
-pub any-blocks : (bs : List (List ℕ)) → All Any bs
-any-blocks [] = nil
-any-blocks (b ∷ bs) = cons tt (any-blocks bs)
-
 module _ {A : Type 0} {P : A → Type 0} where
+  pub all-of : ((x : A) → P x) → (xs : List A) → All P xs
+  all-of h [] = nil
+  all-of h (x ∷ xs) = cons (h x) (all-of h xs)
+
   pub all-append : {xs ys : List A} → All P xs → All P ys → All P (xs ++ ys)
   all-append nil h = h
   all-append (cons p k) h = cons p (all-append k h)
@@ -72,14 +68,23 @@ module _ {A : Type 0} {P : A → Type 0} where
   all-at (cons p h) d q zero = p
   all-at (cons p h) d q (suc k) = all-at h d q k
 
+-- nothing is asked
+abbrev pub Any : List ℕ → Type 0
+Any b = Unit {0}
+
+pub any-blocks : (bs : List (List ℕ)) → All Any bs
+any-blocks = all-of (λ b. tt)
+
+pub at-copies : {A : Type 0} (n i : ℕ) (d : A) → getD (replicate n d) i d ≡ d
+at-copies {A} n i d = all-at {P = λ (x : A). x ≡ d} (all-copies n d refl) d refl i
+
+pub all-so : {A : Type 0} {P Q : A → Type 0} → ((x : A) → P x → Q x) → {xs : List A} → All P xs → All Q xs
+all-so f nil = nil
+all-so f (cons p h) = cons (f _ p) (all-so f h)
+
 pub all-map : {A B : Type 0} {P : A → Type 0} {Q : B → Type 0} (f : A → B) → ((x : A) → P x → Q (f x)) → {xs : List A} → All P xs → All Q (map f xs)
 all-map f g nil = nil
 all-map f g (cons p h) = cons (g _ p) (all-map f g h)
-
-pub all-onto : {A : Type 0} {P : A → Type 0} (x : A) {xss : List (List A)} → P x → All (All P) xss → All (All P) (ontoFirst x xss)
-unfolding ontoFirst
-all-onto x p nil = cons (cons p nil) nil
-all-onto x p (cons q h) = cons (cons p q) h
 
 pub join-append : {A : Type 0} (f : A → List ℕ) (xs ys : List A) → flatMap f (xs ++ ys) ≡ flatMap f xs ++ flatMap f ys
 unfolding flatMap
@@ -97,16 +102,7 @@ module _ {A : Type 0} (p : A → Bool) where
   test-cons x xs e h = rw (e, all) h
 
   pub test-split : (x : A) (xs : List A) → all p (x ∷ xs) ≡ true → (p x ≡ true) × (all p xs ≡ true)
-  unfolding all
-  test-split x xs e = split (p x) refl e
-    where
-      split : (b : Bool) → p x ≡ b → elim b [ true ↦ all p xs | false ↦ false ] ≡ true → (p x ≡ true) × (all p xs ≡ true)
-      split true f g = (f, g)
-      split false f g = absurd (false-not-true g)
-
-  pub test-append : (xs ys : List A) → all p xs ≡ true → all p ys ≡ true → all p (xs ++ ys) ≡ true
-  test-append [] ys h k = k
-  test-append (x ∷ xs) ys h k = let s = test-split x xs h in test-cons x (xs ++ ys) (s .0) (test-append xs ys (s .1) k)
+  test-split x xs e = and-parts (p x) (all p xs) (sym (all-cons p x xs) ∙ e)
 
   -- a test that every element passes holds at each place
   pub test-at : (xs : List A) (d : A) → all p xs ≡ true → (k : ℕ) → k < length xs → p (getD xs k d) ≡ true
@@ -117,6 +113,10 @@ module _ {A : Type 0} (p : A → Bool) where
   pub test-all : {xs : List A} → All (λ (x : A). p x ≡ true) xs → all p xs ≡ true
   test-all nil = test-nil
   test-all (cons {x} {xs} e h) = test-cons x xs e (test-all h)
+
+  pub all-tested : (xs : List A) → all p xs ≡ true → All (λ (x : A). p x ≡ true) xs
+  all-tested [] e = nil
+  all-tested (x ∷ xs) e = let s = test-split x xs e in cons (s .0) (all-tested xs (s .1))
 
 -- the elements before the first that fails a test
 module _ {A : Type 0} (p : A → Bool) where

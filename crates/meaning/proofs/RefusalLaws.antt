@@ -54,11 +54,7 @@ turns place r (x ∷ xs) = turns place (inTurn r place (x .0) (x .1)) xs
 stays : (place : ℕ) (r : Refusal) (rs : List (ℕ × Bool)) → isGood r ≡ false → turns place r rs ≡ r
 unfolding inTurn
 stays place r [] e = refl
-stays place r (x ∷ xs) e = rw (kept (x .1)) (stays place r xs e)
-  where
-    kept : (b : Bool) → inTurn r place (x .0) b ≡ r
-    kept true = unfold inTurn in refl
-    kept false = unfold inTurn in rw e
+stays place r (x ∷ xs) e = by-test (x .1) (λ t. rw t (stays place r xs e)) (λ t. rw (t, e) (stays place r xs e))
 
 pub in-turn : (place : ℕ) (rs : List (ℕ × Bool)) → Numbered rs → turns place noRefusal rs ≡ firstBroken place rs
 unfolding firstBroken inTurn noRefusal isGood

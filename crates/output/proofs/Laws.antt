@@ -4,10 +4,10 @@ use mathlib.Core.Path.{_≡_, refl, sym, ap, _∙_}
 use mathlib.Core.List.{List, [], _∷_, _++_, append-nil, flatMap}
 use Prim.Native.Nat.{ℕ, suc, _+_, _-_, _<_, _≤_, _^_, min}
 use native.Mathlib.Nat.{add-zero, add-suc, suc-add}
-use native.Mathlib.Decide.{decLe}
 use native.Mathlib.Omega.{arith}
 use lib.ListN.{length, set, take, drop, getD, length-append, length-set, drop-of-length-le}
 use lib.Seq.{set-out, length-sets, sets-eq, drop-cons}
+use Rattle.meaning.proofs.Logic.{by-le}
 use Rattle.meaning.proofs.ListLaws.{join-append}
 use Rattle.output.specs.Output.{stored, past, Wrote}
 
@@ -39,20 +39,16 @@ stored-next buf at xs j h =
 -- after as many bytes as fit, the others change nothing
 pub stored-cut : (buf : List ℕ) (at : ℕ) (xs : List ℕ) (n : ℕ) → n ≡ min (length xs) (length buf - at) → stored buf (at + n) (drop n xs) ≡ buf
 unfolding stored
-stored-cut buf at xs n e = at-end (decLe (length xs) n)
-  where
-    at-end : Dec (length xs ≤ n) → stored buf (at + n) (drop n xs) ≡ buf
-    at-end (yes p) = rw drop-of-length-le
-    at-end (no p) = stored-out buf (at + n) (drop n xs) (omega arith)
+stored-cut buf at xs n e =
+    by-le (length xs) n (λ p. rw drop-of-length-le) (λ p. stored-out buf (at + n) (drop n xs) (omega arith))
 
 -- a position that saturates lies past the end of any buffer, as the sum does
 stored-past : (l : List ℕ) (at n : ℕ) (ys : List ℕ) → length l < 2 ^ 64 → stored l (past at n) ys ≡ stored l (at + n) ys
 unfolding past
-stored-past l at n ys h = at-end (decLe (length l) (at + n))
-  where
-    at-end : Dec (length l ≤ at + n) → stored l (past at n) ys ≡ stored l (at + n) ys
-    at-end (yes p) = stored-out l (past at n) ys (omega arith) ∙ sym (stored-out l (at + n) ys p)
-    at-end (no p) = ap (λ (k : ℕ). stored l k ys) (omega arith)
+stored-past l at n ys h =
+    by-le (length l) (at + n)
+    (λ p. stored-out l (past at n) ys (omega arith) ∙ sym (stored-out l (at + n) ys p))
+    (λ p. let e : past at n ≡ at + n = omega arith in rw e)
 
 -- two writes are one. Nested to the right, as a document's parts are
 infixr 50 _⨟_

@@ -8,38 +8,30 @@ use mathlib.Core.List.{List, [], _∷_, _++_, map, append-nil}
 use lib.Dec.{leb}
 use lib.ListN.{length, length-append}
 use lib.Seq.{append-snoc}
-use borrow.Author.Tests.{lt-ltb, le-leb, lt-leb, leb-true, leb-false}
+use borrow.Author.Tests.{lt-ltb}
 use Rattle.meaning.specs.declared.Token.{Token}
 use Rattle.meaning.specs.declared.Token.the-variants.{Character}
 use Rattle.meaning.specs.Lists.{all, any, keep}
 use Rattle.meaning.specs.Codes.{isListed, isCharacter, takesCell, isDoubleHeight}
 use Rattle.meaning.specs.Rows.{heightFirst, rowLimit, isShort}
-use Rattle.meaning.proofs.Logic.{by-test}
+use Rattle.meaning.proofs.Logic.{by-test, same-leb}
 use Rattle.meaning.proofs.ListLaws.{any-cons, all-end, any-end}
 use Rattle.rows.specs.declared.RowFacts.{RowFacts}
 use Rattle.rows.specs.Scanning.{countLimit, factsOfRow, withToken, withCharacters, factsOfRows, withRow}
 
 -- a test below its limit does not tell a count from a capped one
 capped : (limit n k : ℕ) → k < limit → leb (min n limit) k ≡ leb n k
-capped limit n k h =
-    by-test (leb n k)
-    (λ e. rw e (le-leb (min n limit) k (omega (arith, leb-true n k e))))
-    (λ e. rw e (lt-leb (min n limit) k (omega (arith, leb-false n k e))))
+capped limit n k h = same-leb (min n limit) k n k (λ e. omega arith) (λ e. omega arith)
 
-module _ (t : Token) where
-  -- no 0Dh may follow a character
-  height-cons : (ts : List Token) → heightFirst (t ∷ ts) ≡ cond (isCharacter t) (not (any isDoubleHeight ts)) (heightFirst ts)
-  unfolding heightFirst
-  height-cons ts = by-test (isCharacter t) (λ e. rw (e, heightFirst)) (λ e. rw (e, heightFirst))
+-- no 0Dh may follow a character
+height-cons : (t : Token) (ts : List Token) → heightFirst (t ∷ ts) ≡ cond (isCharacter t) (not (any isDoubleHeight ts)) (heightFirst ts)
+unfolding heightFirst
+height-cons t ts = by-test (isCharacter t) (λ e. rw (e, heightFirst)) (λ e. rw (e, heightFirst))
 
-  kept-end : (ts : List Token) → length (keep takesCell (ts ++ (t ∷ []))) ≡ cond (takesCell t) (length (keep takesCell ts) + 1) (length (keep takesCell ts))
-  unfolding keep
-  kept-end [] = by-test (takesCell t) (λ e. rw (e, keep)) (λ e. rw (e, keep))
-  kept-end (u ∷ ts) = by-test (takesCell u) (λ e. rw (e, keep, kept-end ts) (onto (takesCell t))) (λ e. rw (e, keep) (kept-end ts))
-    where
-      onto : (b : Bool) → suc (cond b (length (keep takesCell ts) + 1) (length (keep takesCell ts))) ≡ cond b (suc (length (keep takesCell ts)) + 1) (suc (length (keep takesCell ts)))
-      onto true = omega arith
-      onto false = refl
+keep-append : (ts us : List Token) → keep takesCell (ts ++ us) ≡ keep takesCell ts ++ keep takesCell us
+unfolding keep
+keep-append [] us = refl
+keep-append (t ∷ ts) us = by-test (takesCell t) (λ e. rw (e, keep, keep-append ts us)) (λ e. rw (e, keep) (keep-append ts us))
 
 not-either : (d r : Bool) → not (d || r) ≡ (not (d && true) && not r)
 not-either true r = refl
@@ -55,10 +47,10 @@ height-end (u ∷ ts) t =
     (λ e. rw (height-cons u (ts ++ (t ∷ [])), height-cons u ts, any-cons isCharacter u ts, e) (height-end ts t))
 
 pub with-token : (ts : List Token) (t : Token) → factsOfRow (ts ++ (t ∷ [])) ≡ withToken (factsOfRow ts) t
-unfolding factsOfRow withToken
+unfolding factsOfRow withToken keep
 with-token ts t =
     let cells : min (length (keep takesCell (ts ++ (t ∷ [])))) countLimit ≡ cond (takesCell t) (min (min (length (keep takesCell ts)) countLimit + 1) countLimit) (min (length (keep takesCell ts)) countLimit) =
-    by-test (takesCell t) (λ e. rw (kept-end t ts, e) (omega arith)) (λ e. rw (kept-end t ts, e)) in
+    rw (keep-append ts (t ∷ []), length-append) (by-test (takesCell t) (λ e. rw (e, keep) (omega arith)) (λ e. rw (e, keep) (omega arith))) in
     rw (cells, all-end isListed ts t, any-end isDoubleHeight ts t, any-end isCharacter ts t, height-end ts t)
 
 more-characters : (f : RowFacts) (c n : ℕ) → withCharacters (withToken f (Character c)) n ≡ withCharacters f (suc n)

@@ -1,16 +1,14 @@
 -- The positions after a row and after a row end, and the tokens that stand there.
 -- Assumes nothing.
-use Prim.Native.Nat.{ℕ, zero, suc, _+_, _-_, _≤_, _<_}
+use Prim.Native.Nat.{ℕ, zero, suc, _+_, _≤_, _<_}
 use native.Mathlib.Omega.{arith}
 use mathlib.Core.Path.{_≡_, sym, ap, _∙_}
 use mathlib.Core.Bool.{Bool, true, false, cond}
 use mathlib.Core.List.{List}
-use lib.Dec.{ltb}
 use lib.ListN.{length, drop}
-use borrow.Author.Tests.{ltb-true, ltb-false}
 use Rattle.meaning.specs.declared.Token.{Token}
 use Rattle.meaning.specs.Codes.{isRowEnd, tokens}
-use Rattle.meaning.proofs.Logic.{by-test, false-not-true}
+use Rattle.meaning.proofs.Logic.{by-test, by-le, false-not-true}
 use Rattle.charset.specs.declared.Reading.{Reading}
 use Rattle.charset.specs.Reading.{readingAt, tokenAt, nextAt, afterEndAt, afterRowAt}
 use Rattle.charset.proofs.Positions.{read-over, row-over}
@@ -29,47 +27,42 @@ module _ {s : List ℕ} {i : ℕ} {r : Reading} (o : ReadOn s i r) where
   row-more e = rw e at (o .row)
 
 -- after the row from i, at n, stand the tokens after its row end; where there is one, n lies further on within the text
-record Passed (s : List ℕ) (i n : ℕ) : Type 0 where
+record AfterRow (s : List ℕ) (i n : ℕ) : Type 0 where
   rest : tokens (drop n s) ≡ afterRow (tokens (drop i s))
   on : isEnded (tokens (drop i s)) ≡ true → (i < n) × (n ≤ length s)
 
-passed-over : (s : List ℕ) (i : ℕ) → length s ≤ i → Passed s i (afterRowAt s i)
-passed-over s i h =
+at-text-end : (s : List ℕ) (i : ℕ) → length s ≤ i → AfterRow s i (afterRowAt s i)
+at-text-end s i h =
     let t = tokens-end s i h in
     rw (row-over s i h)
     (record { rest = t ∙ sym (ap afterRow t ∙ after-none); on = λ e. absurd (false-not-true (sym (ap isEnded t ∙ ended-none) ∙ e)) })
 
-passed : (k : ℕ) (s : List ℕ) (i : ℕ) → length s ≤ i + k → Passed s i (afterRowAt s i)
-passed zero s i h = passed-over s i (omega arith)
-passed (suc k) s i h =
-    by-test (ltb i (length s))
+after-row : (k : ℕ) (s : List ℕ) (i : ℕ) → length s ≤ i + k → AfterRow s i (afterRowAt s i)
+after-row zero s i h = at-text-end s i (omega arith)
+after-row (suc k) s i h =
+    by-le (length s) i (at-text-end s i)
     (λ l.
-    let o = read-at s i (ltb-true i (length s) l) in
+    let o = read-at s i l in
     let ts = tokens (drop (nextAt s i) s) in
     by-test (isRowEnd (tokenAt s i))
     (λ e. rw (row-end o e) (record { rest = sym (ap afterRow (o .first) ∙ after-end (tokenAt s i) ts e); on = λ z. (o .on, o .within) }))
     (λ e.
-    let p = passed k s (nextAt s i) (omega (arith, o .on)) in
+    let p = after-row k s (nextAt s i) (omega (arith, o .on)) in
     rw (row-more o e)
     (record {
       rest = p .rest ∙ sym (ap afterRow (o .first) ∙ after-more (tokenAt s i) ts e);
       on = λ z. let w = p .on (sym (ap isEnded (o .first) ∙ ended-more (tokenAt s i) ts e) ∙ z) in (omega (arith, o .on), w .1);
     })))
-    (λ l. passed-over s i (ltb-false i (length s) l))
 
 module _ (s : List ℕ) (i : ℕ) {n : ℕ} (e : n ≡ afterRowAt s i) where
   pub rest-after : tokens (drop n s) ≡ afterRow (tokens (drop i s))
-  rest-after = rw e (passed (length s) s i (omega arith) .rest)
+  rest-after = rw e (after-row (length s) s i (omega arith) .rest)
 
   pub on-after : {b : Bool} → b ≡ isEnded (tokens (drop i s)) → b ≡ true → (i < n) × (n ≤ length s)
-  on-after f z = rw e (passed (length s) s i (omega arith) .on (sym f ∙ z))
+  on-after f z = rw e (after-row (length s) s i (omega arith) .on (sym f ∙ z))
 
 -- a row end at a position
 module _ (s : List ℕ) (i : ℕ) where
-  -- where the text has a token at i, and where it has none
-  by-token : {G : Type 0} → (i < length s → G) → (length s ≤ i → G) → G
-  by-token f g = by-test (ltb i (length s)) (λ l. f (ltb-true i (length s) l)) (λ l. g (ltb-false i (length s) l))
-
   no-token : length s ≤ i → isRowEnd (tokenAt s i) ≡ false
   unfolding isRowEnd
   no-token h = ap (λ (r : Reading). isRowEnd (r .token)) (read-over s i h)
@@ -77,7 +70,9 @@ module _ (s : List ℕ) (i : ℕ) where
   pub end-first : isRowEnd (tokenAt s i) ≡ endFirst (tokens (drop i s))
   unfolding endFirst
   end-first =
-      by-token (λ h. sym (ap endFirst (read-at s i h .first))) (λ h. no-token h ∙ sym (ap endFirst (tokens-end s i h)))
+      by-le (length s) i
+      (λ h. no-token h ∙ sym (ap endFirst (tokens-end s i h)))
+      (λ h. sym (ap endFirst (read-at s i h .first)))
 
   after-here : isRowEnd (tokenAt s i) ≡ true → afterEndAt s i ≡ nextAt s i
   unfolding afterEndAt
@@ -90,13 +85,13 @@ module _ (s : List ℕ) (i : ℕ) where
   pub without-end : tokens (drop (afterEndAt s i) s) ≡ withoutEnd (tokens (drop i s))
   unfolding withoutEnd
   without-end =
-      by-token
+      by-le (length s) i
+      (λ h. rw (after-not (no-token h)) (tokens-end s i h ∙ sym (ap withoutEnd (tokens-end s i h))))
       (λ h.
       let o = read-at s i h in
       by-test (isRowEnd (tokenAt s i))
       (λ e. rw (after-here e) (sym (ap withoutEnd (o .first) ∙ rw (e, withoutEnd))))
       (λ e. rw (after-not e) (o .first ∙ sym (ap withoutEnd (o .first) ∙ rw (e, withoutEnd)))))
-      (λ h. rw (after-not (no-token h)) (tokens-end s i h ∙ sym (ap withoutEnd (tokens-end s i h))))
 
   -- what a look at the position tells
   pub end-read : {r : Reading} (b : Bool) → r ≡ readingAt s i → b ≡ isRowEnd (r .token) → record { even = b; start = cond b (r .next) i } ≡ nextRow s true i
@@ -105,10 +100,10 @@ module _ (s : List ℕ) (i : ℕ) where
 
   end-on : i ≤ afterEndAt s i
   end-on =
-      by-token
+      by-le (length s) i
+      (λ h. rw (after-not (no-token h)) (omega arith))
       (λ h.
       by-test (isRowEnd (tokenAt s i)) (λ e. rw (after-here e) (omega (arith, read-at s i h .on))) (λ e. rw (after-not e) (omega arith)))
-      (λ h. rw (after-not (no-token h)) (omega arith))
 
 pub start-on : (s : List ℕ) (paired : Bool) (next : ℕ) → next ≤ nextRowAt s paired next
 unfolding nextRowAt

@@ -5,7 +5,7 @@ use native.Mathlib.Omega.{arith}
 use mathlib.Core.Path.{_≡_, refl, sym, ap, _∙_}
 use mathlib.Core.Bool.{Bool, true, false, cond, not, _&&_, _||_, and-true, and-assoc, or-true}
 use mathlib.Core.List.{List, [], _∷_, _++_, append-nil}
-use lib.ListN.{length, drop}
+use lib.ListN.{drop}
 use lib.Seq.{append-snoc}
 use Rattle.meaning.specs.declared.Token.{Token}
 use Rattle.meaning.specs.Codes.{tokens}
@@ -18,7 +18,7 @@ use Rattle.rows.specs.Scanning.{factsOfRows, withRow}
 use Rattle.rows.specs.Scanned.{isEnded, Scanned, nextRow, TextScanned}
 use Rattle.rows.proofs.Laws.{rows-first, rows-after, no-rows-after, even-ended, even-open}
 use Rattle.rows.proofs.Gathered.{with-row}
-use Rattle.rows.proofs.RowEnds.{rest-after, on-after, end-first, started, next-rows}
+use Rattle.rows.proofs.RowEnds.{rest-after, end-first, started, next-rows}
 
 -- `row` is what stands from the row read last on; `past` are the rows up to that one, the rows after it are still to come
 pub record TextLeft (s : List ℕ) (paired : Bool) (a : TextFacts) (even more : Bool) (next : ℕ) : Type 0 where
@@ -29,7 +29,6 @@ pub record TextLeft (s : List ℕ) (paired : Bool) (a : TextFacts) (even more : 
   pub facts : a ≡ factsOfRows past
   pub rows : past ++ rowsAfter paired row ≡ rowsOf paired (tokens s)
   pub evens : (even && (not paired || evenFrom false row)) ≡ (not paired || evenFrom false (tokens s))
-  pub within : more ≡ true → next ≤ length s
 
 pub left-first :
     {s : List ℕ} (paired : Bool) {r : RowScan} {z a : TextFacts} → Scanned s 0 r → z ≡ factsOfRows [] → a ≡ withRow z (r .facts)
@@ -43,7 +42,6 @@ left-first {s} paired {r} k n e =
       facts = rw (e, n, k .facts) (sym (with-row [] (firstRow (tokens s))));
       rows = sym (rows-first paired (tokens s));
       evens = refl;
-      within = λ z. on-after s 0 (k .next) (k .ended) z .1;
     }
 
 -- where row ends are not paired, it does not count whether their runs are even
@@ -78,7 +76,6 @@ module _ {s : List ℕ} {paired : Bool} {a : TextFacts} {even more : Bool} {next
               ∙ ap (λ (rs : List (List Token)). l .past ++ rs) (sym (rows-first paired ts) ∙ ap (rowsOf paired) q ∙ sym (rows-after paired (l .row) (sym (l .ended) ∙ m)))
               ∙ l .rows;
           evens = even-next ts q;
-          within = λ z. on-after s (n .start) (k .next) (k .ended) z .1;
         }
 
   pub left-last : more ≡ false → TextScanned s paired (record { facts = a; even = even })

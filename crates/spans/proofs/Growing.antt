@@ -8,14 +8,14 @@ use lib.Dec.{eqb}
 use borrow.Author.Tests.{eq-eqb, eqb-true, not-true, not-false}
 use Rattle.meaning.specs.declared.Look.{Look}
 use Rattle.meaning.specs.Lists.{all}
-use Rattle.meaning.specs.Looks.{whiteOnBlack, pack, unpack, shared, free, blend}
+use Rattle.meaning.specs.Looks.{whiteOnBlack, unpack, shared, free, blend}
 use Rattle.meaning.specs.Cells.{Cell, isBlank}
 use Rattle.meaning.specs.Spans.{fits, foregroundOf, lookOf, uniform, spansFrom, spans}
 use Rattle.meaning.proofs.Logic.{by-test, false-not-true, and-parts, and-true as both-true, or-true-right}
-use Rattle.meaning.proofs.ListLaws.{All, all-cons, all-end, test-nil, test-split}
-use Rattle.meaning.proofs.ListLaws.All.{nil, cons}
+use Rattle.meaning.proofs.ListLaws.{All, all-cons, all-end, all-tested, test-nil}
+use Rattle.meaning.proofs.ListLaws.All.{cons}
 use Rattle.meaning.proofs.LookLaws.{white-bits, unpack-pack}
-use Rattle.laws.proofs.Fitting.{Fits, Blank, all-say, all-fit, refit-blank, one-uniform, look-shared, look-free}
+use Rattle.laws.proofs.Fitting.{Fits, all-say, all-fit, refit-blank, one-uniform, look-shared, look-free}
 use Rattle.cells.specs.Arrays.{packedCell}
 use Rattle.spans.specs.declared.joining.Foreground.{Foreground}
 use Rattle.spans.specs.Foregrounds.{noForeground, foregroundWith, joins}
@@ -71,10 +71,6 @@ foreground-more fore cs p n t =
 all-last : {A : Type 0} (p : A → Bool) (xs : List A) (x : A) → all p xs ≡ true → all p (xs ++ (x ∷ [])) ≡ p x
 all-last p xs x e = all-end p xs x ∙ rw e (and-true (p x))
 
-all-blank : (cs : List Cell) → all isBlank cs ≡ true → All Blank cs
-all-blank [] e = nil
-all-blank (c ∷ cs) e = let s = test-split isBlank c cs e in cons (s .0) (all-blank cs (s .1))
-
 -- the two tests, with what is known put in
 fits-by : (l : Look) (c : Cell) (s f : ℕ) → shared l ≡ s → free l ≡ f → fits l c ≡ (eqb (shared (c .look)) s && (isBlank c || eqb (free (c .look)) f))
 unfolding fits
@@ -101,7 +97,7 @@ module _ (b : Cell) (cs : List Cell) (c : Cell) (fore : Foreground) (t : IsForeg
       let own : isBlank c ≡ false → free (c .look) ≡ free m =
       λ f. sym (look-free b (cs ++ (c ∷ [])) ∙ ap free (foreground-end (b ∷ cs) c ∙ rw (e, f))) in
       all-last (fits m) (b ∷ cs) c
-      (all-fit (refit-blank l m (s ∙ sym (look-shared b cs)) (all-blank (b ∷ cs) e) (all-say l (b ∷ cs) u)))
+      (all-fit (refit-blank l m (s ∙ sym (look-shared b cs)) (all-tested isBlank (b ∷ cs) e) (all-say l (b ∷ cs) u)))
       ∙ fits-by m c (shared (b .look)) (free m) s refl
       ∙ ap (λ (x : Bool). eqb (shared (c .look)) (shared (b .look)) && x) (or-right (isBlank c) _ true (λ f. eq-eqb _ _ (own f)))
       ∙ sym (joins-by (b .look) fore c true (t .blanks ∙ e))

@@ -32,19 +32,19 @@ unfolding spans
 no-spans characters looks i e h = rw (to-none characters looks i e h)
 
 -- the first span takes cells from the left; the other spans are those of the rest
-record Taken (cur cs : List Cell) : Type 0 where
+record SplitOff (cur cs : List Cell) : Type 0 where
   xs : List Cell
   ys : List Cell
   parts : cs ≡ xs ++ ys
   is : spansFrom cur cs ≡ (cur ++ xs) ∷ spans ys
 
-taken : (cur cs : List Cell) → Taken cur cs
+split-off : (cur cs : List Cell) → SplitOff cur cs
 unfolding spansFrom spans
-taken cur [] = record { xs = []; ys = []; parts = refl; is = rw (append-nil cur) }
-taken cur (c ∷ cs) =
+split-off cur [] = record { xs = []; ys = []; parts = refl; is = rw (append-nil cur) }
+split-off cur (c ∷ cs) =
     by-test (uniform (cur ++ (c ∷ [])))
     (λ u.
-    let t = taken (cur ++ (c ∷ [])) cs in
+    let t = split-off (cur ++ (c ∷ [])) cs in
     record {
       xs = c ∷ t .xs;
       ys = t .ys;
@@ -69,7 +69,7 @@ module _ (characters looks : List ℕ) where
   first-span start e q h k =
       let b = cellAt characters looks start in
       let bs = cellsTo characters looks (start + 1) e in
-      let t = taken (b ∷ []) bs in
+      let t = split-off (b ∷ []) bs in
       let f = to-first characters looks start e h in
       let is : spans (cellsTo characters looks start e) ≡ (b ∷ t .xs) ∷ spans (t .ys) = ap spans f ∙ unfold spans in t .is in
       let end = start + length (b ∷ t .xs) in

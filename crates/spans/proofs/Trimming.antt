@@ -5,12 +5,11 @@ use native.Mathlib.Omega.{arith}
 use mathlib.Core.Path.{_≡_, refl, sym, ap, _∙_}
 use mathlib.Core.Bool.{true, false}
 use mathlib.Core.List.{List, [], _∷_, _++_}
-use lib.ListN.{length, take, drop, take-append-drop}
+use lib.ListN.{length, drop, take-append-drop}
 use Rattle.meaning.specs.Lists.{takeWhile}
 use Rattle.meaning.specs.Cells.{Cell, isBlankOnBlack, trimFront, beforeTrimmed, trimBack, shown}
-use Rattle.meaning.proofs.Logic.{by-test}
 use Rattle.meaning.proofs.ListLaws.{while-on, while-off}
-use Rattle.laws.proofs.Trimming.{front-cut, front-kept, last-cut, last-kept}
+use Rattle.laws.proofs.Trimming.{last-cut, last-kept, front-split, back-take}
 use Rattle.cells.specs.Arrays.{cellAt, cellsAt}
 use Rattle.spans.specs.Ranges.{cellsTo}
 use Rattle.spans.proofs.Arrays.{length-at, to-all, to-none, to-first, to-last, to-split}
@@ -29,23 +28,6 @@ back-kept : (cs : List Cell) (c : Cell) → isBlankOnBlack c ≡ false → trimB
 unfolding trimBack
 back-kept [] c e = last-kept c e
 back-kept (b ∷ cs) c e = ap (beforeTrimmed b) (back-kept cs c e) ∙ before-some b cs c
-
--- what is trimmed stands at the front, and at the end
-front-split : (cs : List Cell) → cs ≡ takeWhile isBlankOnBlack cs ++ trimFront cs
-front-split [] = unfold takeWhile trimFront in refl
-front-split (c ∷ cs) =
-    by-test (isBlankOnBlack c)
-    (λ e. rw (while-on isBlankOnBlack c cs e, front-cut c cs e) (ap (λ (l : List Cell). c ∷ l) (front-split cs)))
-    (λ e. rw (while-off isBlankOnBlack c cs e, front-kept c cs e))
-
-back-onto : (c : Cell) (cs t : List Cell) → take (length t) cs ≡ t → take (length (beforeTrimmed c t)) (c ∷ cs) ≡ beforeTrimmed c t
-back-onto c cs [] h = by-test (isBlankOnBlack c) (λ e. rw (last-cut c e)) (λ e. rw (last-kept c e))
-back-onto c cs (d ∷ ds) h = unfold beforeTrimmed in ap (λ (l : List Cell). c ∷ l) h
-
-back-take : (cs : List Cell) → take (length (trimBack cs)) cs ≡ trimBack cs
-unfolding trimBack
-back-take [] = refl
-back-take (c ∷ cs) = back-onto c cs (trimBack cs) (back-take cs)
 
 -- The loops. At the front: the blanks on black that were passed, with those from i on, are all of them.
 pub record FrontLeft (characters looks : List ℕ) (n i : ℕ) : Type 0 where

@@ -7,11 +7,9 @@ use native.Mathlib.Omega.{arith}
 use mathlib.Core.Bool.{true, false}
 use mathlib.Core.List.{List}
 use mathlib.Core.Path.{_≡_}
-use lib.Dec.{leb}
 use lib.ListN.{length, drop, getD, drop-of-length-le}
 use lib.Seq.{drop-cons}
-use borrow.Author.Tests.{leb-true}
-use Rattle.meaning.proofs.Logic.{and-parts}
+use Rattle.meaning.proofs.Logic.{between}
 use Rattle.meaning.specs.Gsi.{isDigit, valueFrom}
 use Rattle.meaning.specs.Lists.{all}
 
@@ -35,7 +33,7 @@ module _ (s : List ℕ) (i : ℕ) where
 
 pub digit-range : (c : ℕ) → isDigit c ≡ true → (48 ≤ c) × (c ≤ 57)
 unfolding isDigit
-digit-range c e = let p = and-parts (leb 48 c) (leb c 57) e in (leb-true 48 c (p .0), leb-true c 57 (p .1))
+digit-range c e = between 48 57 c e
 
 -- i digits write a number below 10 ^ i
 pub below-next : (v d i : ℕ) → v < 10 ^ i → d ≤ 9 → 10 * v + d < 10 ^ (i + 1)

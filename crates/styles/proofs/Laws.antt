@@ -11,17 +11,14 @@ use lib.ListN.{getD}
 use Rattle.meaning.specs.Lists.{keep, upFrom}
 use Rattle.meaning.specs.Looks.{lookCount}
 use Rattle.meaning.specs.Document.{Paragraph, writeStyle, isUsed, looksUsed}
+use Rattle.meaning.proofs.Logic.{by-test}
 use Rattle.output.specs.Output.{Wrote}
 use Rattle.output.proofs.Laws.{wrote-more}
 use Rattle.styles.specs.Styles.{isOn, looksMarked}
 
 keep-first : (p : ℕ → Bool) (k : ℕ) (ks : List ℕ) → keep p (k ∷ ks) ≡ cond (p k) (k ∷ keep p ks) (keep p ks)
 unfolding keep
-keep-first p k ks = at-head (p k) refl
-  where
-    at-head : (b : Bool) → p k ≡ b → keep p (k ∷ ks) ≡ cond (p k) (k ∷ keep p ks) (keep p ks)
-    at-head true e = rw (e, keep)
-    at-head false e = rw (e, keep)
+keep-first p k ks = by-test (p k) (λ e. rw (e, keep)) (λ e. rw (e, keep))
 
 join-first : (f : ℕ → List ℕ) (b : Bool) (k : ℕ) (ks : List ℕ) → flatMap f (cond b (k ∷ ks) ks) ≡ cond b (f k) [] ++ flatMap f ks
 unfolding flatMap

@@ -15,16 +15,14 @@ use Rattle.meaning.specs.declared.Token.{Token}
 use Rattle.meaning.specs.Lists.{all, keep}
 use Rattle.meaning.specs.Refusals.{isGood}
 use Rattle.meaning.specs.Codes.{tokens, takesCell}
-use Rattle.meaning.specs.Rows.{isDouble, breaksPaired, rows, linesOf, rowCount, rowLimit, isShort, rowsFit, textRule, rowsOf}
+use Rattle.meaning.specs.Rows.{isDouble, breaksPaired, rows, linesOf, rowCount, rowLimit, isShort, textRule, rowsOf}
 use Rattle.meaning.specs.declared.Pen.{Pen}
 use Rattle.meaning.specs.Cells.{Cell, newPen, rowStart, cellsOfRow, penAfterRow, cellRows}
 use Rattle.meaning.specs.Document.{writePiece}
 use Rattle.meaning.specs.Document.Piece.{br}
 use Rattle.meaning.specs.Conversion.{rowPieces, fillers, pieces}
-use Rattle.laws.proofs.Bounds.{cells-length}
-use Rattle.meaning.proofs.Logic.{and-parts}
+use Rattle.laws.proofs.Bounds.{cells-length, rows-fit}
 use Rattle.meaning.proofs.ListLaws.{test-split}
-use Rattle.meaning.proofs.RefusalLaws.{unbroken}
 use Rattle.output.specs.Output.{Wrote}
 use Rattle.rows.specs.Scanning.{countLimit}
 use Rattle.text.specs.declared.Tally.{Tally}
@@ -73,12 +71,6 @@ uncut-rows p (r ∷ rs) e =
     let s = test-split isShort r rs e in
     rw (uncut p r (s .0)) (ap (λ (cs : List (List Cell)). cellsOfRow p r ∷ cs) (uncut-rows (penAfterRow p r) rs (s .1)))
 
-short-rows : (f : Format) (place vp : ℕ) (ts : List Token) → isGood (textRule f place vp ts) ≡ true → all isShort (rows (f .mode) ts) ≡ true
-unfolding textRule rowsFit
-short-rows f place vp ts e =
-    let r = unbroken _ _ _ _ (unbroken _ _ _ _ e .1) in
-    and-parts (all isShort (rows (f .mode) ts)) _ (unbroken _ _ _ _ (r .1) .0) .0
-
 -- the content of a text within the rules 13 to 15 is that of its subtitle
 pub content-whole :
     (f : Format) (place vp : ℕ) (text : List ℕ) → isGood (textRule f place vp (tokens text)) ≡ true
@@ -86,4 +78,4 @@ pub content-whole :
 unfolding contentOf
 content-whole f place vp text e =
     ap (pieces (f .screen .end) vp (isDouble (tokens text)))
-    (uncut-rows (newPen (isDouble (tokens text))) (rows (f .mode) (tokens text)) (short-rows f place vp (tokens text) e))
+    (uncut-rows (newPen (isDouble (tokens text))) (rows (f .mode) (tokens text)) (rows-fit f place vp (tokens text) e .0))

@@ -1,7 +1,6 @@
 -- The loop over a row's spans, seen from the cells that are left.
 -- Assumes nothing.
 use Prim.Native.Nat.{ℕ, _-_, _≤_, _<_, min}
-use native.Mathlib.Decide.{decLe}
 use native.Mathlib.Omega.{arith}
 use mathlib.Core.Path.{_≡_, sym, ap, subst, _∙_}
 use Rattle.meaning.specs.declared.Pen.{Pen}
@@ -14,6 +13,7 @@ use Rattle.meaning.specs.Spans.{spans}
 use Rattle.meaning.specs.Document.{Piece}
 use Rattle.meaning.specs.Document.Piece.{span}
 use Rattle.meaning.specs.Conversion.{spanOf, rowSpans}
+use Rattle.meaning.proofs.Logic.{by-le}
 use Rattle.cells.specs.declared.RowRead.{RowRead}
 use Rattle.cells.specs.Arrays.{cellsAt}
 use Rattle.cells.specs.Decoded.{rowAt, Decoded}
@@ -85,11 +85,10 @@ module _ (characters looks : List ℕ) (n : ℕ) where
 
 -- a row decoded into arrays of a row's limit and laid
 cut-row : {A : Type 0} (xs : List A) → take (min (length xs) rowLimit) xs ≡ take rowLimit xs
-cut-row xs = by-length (decLe (length xs) rowLimit)
-  where
-    by-length : Dec (length xs ≤ rowLimit) → take (min (length xs) rowLimit) xs ≡ take rowLimit xs
-    by-length (yes h) = let m : min (length xs) rowLimit ≡ length xs = omega arith in rw m (take-length xs ∙ sym (take-all rowLimit xs h))
-    by-length (no h) = let m : min (length xs) rowLimit ≡ rowLimit = omega arith in rw m
+cut-row xs =
+    by-le (length xs) rowLimit
+    (λ h. let m : min (length xs) rowLimit ≡ length xs = omega arith in rw m (take-length xs ∙ sym (take-all rowLimit xs h)))
+    (λ h. let m : min (length xs) rowLimit ≡ rowLimit = omega arith in rw m)
 
 pub row-done :
     {text : List ℕ} {start : ℕ} {pen : Pen} {characters looks characters′ looks′ buf buf′ : List ℕ} {on on′ : List Bool} {t r : Tally} {d : RowRead}

@@ -2,7 +2,8 @@
 
 ghost use mathlib.Core.Path.{_≡_};
 ghost use mathlib.Core.List.{[], _∷_, map, flatMap};
-ghost use lib.ListN.{replicate};
+ghost use Prim.Native.Nat.{_-_, _≤_};
+ghost use lib.ListN.{length, take, drop, replicate};
 ghost use Rattle.meaning.specs.Document.{escaped, writePiece};
 ghost use Rattle.meaning.specs.Document.Piece.{span, br};
 ghost use Rattle.meaning.specs.Conversion.{rowSpans, fillers};
@@ -34,14 +35,24 @@ fn put_characters(out: &mut [u8], at: usize, characters: &[u16]) -> usize
     p
 }
 
-// Spans are counted, and their looks marked, here and nowhere else.
-fn put_span(out: &mut [u8], marks: &mut [bool], t: Tally, characters: &[u16], look: u16) -> Tally
-    ensures { λ r. ⌜ PiecesLaid (now (out .entry)) (now (marks .entry)) t (span (record { look = look; characters = now (characters .entry) }) ∷ []) (now (out .exit)) (now (marks .exit)) r ⌝ }
+// A span of the characters from one position up to another. Spans are counted, and their looks marked, here and nowhere
+// else.
+fn put_span(
+    out: &mut [u8],
+    marks: &mut [bool],
+    t: Tally,
+    characters: &[u16],
+    from: usize,
+    to: usize,
+    look: u16,
+) -> Tally
+    requires { ⌜ (from ≤ to) × (to ≤ length (now characters)) ⌝ }
+    ensures { λ r. ⌜ PiecesLaid (now (out .entry)) (now (marks .entry)) t (span (record { look = look; characters = take (to - from) (drop from (now (characters .entry))) }) ∷ []) (now (out .exit)) (now (marks .exit)) r ⌝ }
 {
     let p = output::put(out, t.at, b"<tt:span style=\"");
     let p = styles::put_style_name(out, p, look);
     let p = output::put(out, p, b"\">");
-    let p = put_characters(out, p, characters);
+    let p = put_characters(out, p, &characters[from..to]);
     let p = output::put(out, p, b"</tt:span>");
     styles::mark(marks, look);
     Tally {
@@ -100,9 +111,8 @@ fn put_row(
     let mut i = shown.start;
     while i < end {
         let s = spans::span_at(characters, looks, i, end);
-        let e = s.end;
-        r = put_span(out, marks, r, &characters[i..e], s.look);
-        i = e;
+        r = put_span(out, marks, r, characters, i, s.end, s.look);
+        i = s.end;
     }
     r
 }

@@ -2,7 +2,7 @@
 -- Assumes nothing.
 use Prim.Native.Nat.{_-_}
 use native.Mathlib.Omega.{arith}
-use mathlib.Core.Path.{refl, sym, _∙_}
+use mathlib.Core.Path.{sym, _∙_}
 use lib.ListN.{length}
 use Rattle.charset.proofs.Laws.{read-on, turn-on}
 use borrow.Author.Needs.{needs}
@@ -32,65 +32,35 @@ put-cell-requires c κs =
     let l = t .before .before in
     omega (arith, l .loop .inv .passed, t .before .loop-test .taken, l .before .before .before .before .before .good)
 
-sub-put-run : tie.Need-sub-put-run Inv-loop μ-loop
-sub-put-run c =
+put-run-requires : tie.Need-put-run-requires Inv-loop μ-loop
+put-run-requires c κs =
     let p = c .before .before in
-    let t = p .before .before .before .before .before .before .before .before .before .before .before in
-    let w = turn-on (t .token-at .ensures) (t .before .loop-test .taken) (p .plain-end .ensures) in
-    w .run .on
-
-part-put-run-start : tie.Need-part-put-run-start Inv-loop μ-loop
-part-put-run-start c =
-    let p = c .before .before in
-    let t = p .before .before .before .before .before .before .before .before .before .before .before in
-    let w = turn-on (t .token-at .ensures) (t .before .loop-test .taken) (p .plain-end .ensures) in
-    search needs
-
-part-put-run-end : tie.Need-part-put-run-end Inv-loop μ-loop
-part-put-run-end c =
-    let p = c .before .before in
-    let t = p .before .before .before .before .before .before .before .before .before .before .before in
-    let w = turn-on (t .token-at .ensures) (t .before .loop-test .taken) (p .plain-end .ensures) in
-    search needs
-
-sub-n : tie.Need-sub-n Inv-loop μ-loop
-sub-n c =
-    let p = c .before .before .before .before .before .before .before .before in
-    let t = p .before .before .before .before .before .before .before .before .before .before .before in
-    let w = turn-on (t .token-at .ensures) (t .before .loop-test .taken) (p .plain-end .ensures) in
-    w .run .on
-
-add-n : tie.Need-add-n Inv-loop μ-loop
-add-n c =
-    let p = c .before .before .before .before .before .before .before .before in
-    let t = p .before .before .before .before .before .before .before .before .before .before .before in
-    let w = turn-on (t .token-at .ensures) (t .before .loop-test .taken) (p .plain-end .ensures) in
-    let l = t .before .before in
     let k = p .before .before .before .before .before .before in
-    omega (arith, l .loop .inv .passed, l .before .before .before .before .before .good, k .put-cell .ensures .2, cells-one (t .token-at .result .token) (l .loop .pen))
+    let t = k .before .before .before .before .before in
+    let l = t .before .before in
+    let w = turn-on (t .token-at .ensures) (t .before .loop-test .taken) (p .plain-end .ensures) in
+    let few = cells-one (t .token-at .result .token) (l .loop .pen) in
+    (w .run .on, w .run .within, omega (arith, l .loop .inv .passed, l .before .before .before .before .before .good, k .put-cell .ensures .2))
 
 loop-less : tie.Need-loop-less Inv-loop μ-loop
 loop-less c =
-    let p = c .before .before .before .before .before .before .before .before in
+    let p = c .before .before .before .before .before .before .before in
     let t = p .before .before .before .before .before .before .before .before .before .before .before in
-    let w = turn-on (t .token-at .ensures) (t .before .loop-test .taken) (p .plain-end .ensures) in
-    omega arith
+    omega (arith, turn-on (t .token-at .ensures) (t .before .loop-test .taken) (p .plain-end .ensures))
 
 loop-again : tie.Need-loop-again Inv-loop μ-loop
 loop-again c =
     let m = c .before .before .before .before in
-    let p = m .before .before .before .before in
+    let p = m .before .before .before in
     let k = p .before .before .before .before .before .before in
     let e = k .before .before .before in
     let t = e .before .before in
     let w = turn-on (t .token-at .ensures) (t .before .loop-test .taken) (p .plain-end .ensures) in
     let s = k .put-cell .ensures in
+    let r = m .put-run .ensures in
     ahead-run
     (ahead-more (t .before .before .loop .inv) (w .read) (sym (e .before .is-row-end .ensures) ∙ e .if1 .left) (p .before .pen-after .ensures) (s .0) (s .1) (s .2))
-    (w .run)
-    (m .put-run .ensures .0)
-    (m .put-run .ensures .1)
-    refl
+    (w .run) (r .0) (r .1) (r .2)
 
 returns-2 : tie.Need-returns-2 Inv-loop μ-loop
 returns-2 c = ahead-text-end (c .before .loop .inv) (c .loop-test .left) (c .before .before .row-start .ensures)
@@ -98,5 +68,5 @@ returns-2 c = ahead-text-end (c .before .loop .inv) (c .loop-test .left) (c .bef
 pub decode-row-spec : {M : Type 1} → statement M
 decode-row-spec =
     tie.close (tie.spec Inv-loop μ-loop (λ c κs. search needs) loop-holds (λ c κs. search needs) (λ c κs. search needs) (λ c. search needs)
-    (λ c. search needs) returns put-cell-requires (λ c κs. search needs) (λ c κs. search needs) sub-put-run part-put-run-start
-    part-put-run-end (λ c κs. search needs) sub-n add-n loop-less loop-again (λ c. search needs) (λ c. search needs) returns-2)
+    (λ c. search needs) returns put-cell-requires (λ c κs. search needs) (λ c κs. search needs) put-run-requires loop-less loop-again
+    (λ c. search needs) (λ c. search needs) returns-2)

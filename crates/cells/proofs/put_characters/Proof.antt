@@ -6,7 +6,7 @@ use mathlib.Core.Path.{refl}
 use borrow.Author.Needs.{needs}
 use Rattle.cells.proofs.put_characters.Statement.{statement}
 use Rattle.cells.proofs.put_characters.Tie as tie
-use Rattle.cells.proofs.Storing.{Storing, storing-all, storing-more, storing-done}
+use Rattle.output.proofs.Storing.{Storing, storing-all, storing-more, storing-done}
 
 abbrev Inv-loop : tie.InvT-loop
 Inv-loop characters₀ k codes n j₀ characters j = Storing characters₀ k codes n characters j

@@ -6,11 +6,8 @@ use borrow.Author.Needs.{needs}
 use Rattle.cells.proofs.put_look.Statement.{statement}
 use Rattle.cells.proofs.put_look.Tie as tie
 
-returns : tie.Need-returns
-returns c = rw (c .pack .ensures)
-
-returns-2 : tie.Need-returns-2
-returns-2 c = sym (set-out _ _ _ (c .if1 .left))
-
 pub put-look-spec : {M : Type 1} → statement M
-put-look-spec = tie.close (tie.spec (λ c κs. search needs) (λ c. search needs) (λ c. search needs) (λ c. search needs) returns returns-2)
+put-look-spec =
+    tie.close (tie.spec (λ c κs. search needs) (λ c. search needs) (λ c. search needs) (λ c. search needs)
+    (λ c. rw (c .pack .ensures))
+    (λ c. sym (set-out _ _ _ (c .if1 .left))))

@@ -7,7 +7,7 @@ use lib.ListN.{replicate, length-replicate, getD-replicate}
 use borrow.Author.Needs.{needs}
 use Rattle.cells.proofs.put_looks.Statement.{statement}
 use Rattle.cells.proofs.put_looks.Tie as tie
-use Rattle.cells.proofs.Storing.{Storing, storing-all, storing-more, storing-done}
+use Rattle.output.proofs.Storing.{Storing, storing-all, storing-more, storing-done}
 
 abbrev Inv-loop : tie.InvT-loop
 Inv-loop looks₀ k n packed n' j₀ looks j = Storing looks₀ k (replicate n packed) n' looks j

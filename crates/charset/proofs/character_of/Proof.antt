@@ -6,12 +6,6 @@ use Rattle.charset.proofs.Codes.{character-of}
 use Rattle.charset.proofs.character_of.Statement.{statement}
 use Rattle.charset.proofs.character_of.Tie as tie
 
-returns : tie.Need-returns
-unfolding characterOf
-returns c = rw (c .if1 .taken)
-
-returns-2 : tie.Need-returns-2
-returns-2 c = sym (character-of _ (c .if1 .left))
-
 pub character-of-spec : {M : Type 1} → statement M
-character-of-spec = tie.close (tie.spec returns returns-2)
+unfolding characterOf
+character-of-spec = tie.close (tie.spec (λ c. rw (c .if1 .taken)) (λ c. sym (character-of _ (c .if1 .left))))

@@ -5,9 +5,6 @@ use Rattle.meaning.specs.Codes.{isControl}
 use Rattle.charset.proofs.is_control.Statement.{statement}
 use Rattle.charset.proofs.is_control.Tie as tie
 
-returns : tie.Need-returns
-unfolding isControl
-returns c = search needs
-
 pub is-control-spec : {M : Type 1} → statement M
-is-control-spec = tie.close (tie.spec returns)
+unfolding isControl
+is-control-spec = tie.close (tie.spec (λ c. search needs))

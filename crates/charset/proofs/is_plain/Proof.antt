@@ -5,9 +5,6 @@ use Rattle.charset.specs.Plain.{isPlain}
 use Rattle.charset.proofs.is_plain.Statement.{statement}
 use Rattle.charset.proofs.is_plain.Tie as tie
 
-returns : tie.Need-returns
-unfolding isPlain
-returns c = search needs
-
 pub is-plain-spec : {M : Type 1} → statement M
-is-plain-spec = tie.close (tie.spec returns)
+unfolding isPlain
+is-plain-spec = tie.close (tie.spec (λ c. search needs))

@@ -5,9 +5,6 @@ use Rattle.meaning.specs.Codes.{pairToken}
 use Rattle.charset.proofs.pair_token.Statement.{statement}
 use Rattle.charset.proofs.pair_token.Tie as tie
 
-returns : tie.Need-returns
-unfolding pairToken
-returns c = cc
-
 pub pair-token-spec : {M : Type 1} → statement M
-pair-token-spec = tie.close (tie.spec (λ c κs. search needs) (λ c κs. search needs) returns)
+unfolding pairToken
+pair-token-spec = tie.close (tie.spec (λ c κs. search needs) (λ c κs. search needs) (λ c. cc))

@@ -19,10 +19,6 @@ Inv-loop text start i₀ i = i + length (takeWhile isPlain (drop i text)) ≡ pl
 abbrev μ-loop : tie.MeasureT-loop
 μ-loop text start i₀ i = length text - i
 
-loop-holds : tie.Need-loop-holds Inv-loop μ-loop
-unfolding plainEnd
-loop-holds c = search needs
-
 returns : tie.Need-returns Inv-loop μ-loop
 returns c =
     let s = c .before .before .before .before .before .before .args .text .now in
@@ -39,6 +35,7 @@ returns-2 : tie.Need-returns-2 Inv-loop μ-loop
 returns-2 c = omega (arith, while-ends isPlain (c .before .before .before .args .text .now) (c .before .loop .i) (omega arith))
 
 pub plain-end-spec : {M : Type 1} → statement M
+unfolding plainEnd
 plain-end-spec =
-    tie.close (tie.spec Inv-loop μ-loop loop-holds (λ c. search needs) (λ c κs. search needs) returns (λ c. search needs)
+    tie.close (tie.spec Inv-loop μ-loop (λ c. search needs) (λ c. search needs) (λ c κs. search needs) returns (λ c. search needs)
     (λ c. search needs) loop-again returns-2)

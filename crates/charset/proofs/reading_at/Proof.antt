@@ -1,7 +1,7 @@
 -- `reading_at` gives the reading at a position: its tests are those of the definition.
 -- Assumes nothing.
 use mathlib.Core.Path.{sym}
-use mathlib.Core.Bool.{and-eq-true-iff}
+use Rattle.meaning.proofs.Logic.{and-parts}
 use borrow.Author.Needs.{needs}
 use borrow.Author.Tests.{lt-ltb, le-ltb, ltb-true}
 use Rattle.charset.specs.Reading.{isPairAt, readingAt}
@@ -13,7 +13,7 @@ unfolding readingAt
 returns c = rw (le-ltb _ _ (c .if1 .taken))
 
 shared-slice-read-pair-token : tie.Need-shared-slice-read-pair-token
-shared-slice-read-pair-token c = ltb-true _ _ (and-eq-true-iff (c .before .before .is-accent .result) _ .0 (c .before .if2 .taken) .1)
+shared-slice-read-pair-token c = ltb-true _ _ (and-parts (c .before .before .is-accent .result) _ (c .before .if2 .taken) .1)
 
 returns-2 : tie.Need-returns-2
 unfolding readingAt isPairAt

@@ -1,4 +1,4 @@
--- `put_alignment` meets its contract.
+-- `put_alignment` writes one of three names, by the number of JC.
 -- Assumes nothing.
 use Prim.Native.Nat.{_<_}
 use native.Mathlib.Omega.{arith}

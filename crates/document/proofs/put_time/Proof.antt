@@ -1,4 +1,4 @@
--- `put_time` meets its contract.
+-- `put_time` writes four numbers of two digits, with a colon between them: seven writes.
 -- Assumes nothing.
 use borrow.Author.Needs.{needs}
 use Rattle.meaning.specs.Document.{writeTime}

@@ -5,23 +5,9 @@ use Rattle.meaning.specs.Codes.{isDoubleHeight}
 use Rattle.rows.proofs.is_double_height.Statement.{statement}
 use Rattle.rows.proofs.is_double_height.Tie as tie
 
-returns : tie.Need-returns
-unfolding isDoubleHeight
-returns c = search needs
-
-returns-2 : tie.Need-returns-2
-unfolding isDoubleHeight
-returns-2 c = rw (c .before .t .given .1)
-
-returns-3 : tie.Need-returns-3
-unfolding isDoubleHeight
-returns-3 c = search needs
-
-returns-4 : tie.Need-returns-4
-unfolding isDoubleHeight
-returns-4 c = search needs
-
 pub is-double-height-spec : {M : Type 1} → statement M
+unfolding isDoubleHeight
 is-double-height-spec =
-    tie.close (tie.spec (λ c. search needs) (λ c. search needs) (λ c. search needs) (λ c. search needs) returns returns-2 returns-3
-    returns-4)
+    tie.close (tie.spec (λ c. search needs) (λ c. search needs) (λ c. search needs) (λ c. search needs) (λ c. search needs)
+    (λ c. rw (c .before .t .given .1))
+    (λ c. search needs) (λ c. search needs))

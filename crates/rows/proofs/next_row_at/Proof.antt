@@ -12,9 +12,6 @@ returns c = rw (c .before .before .before .if1 .taken) (rw (c .if2 .taken) at (e
 returns-2 : tie.Need-returns-2
 returns-2 c = rw (c .before .before .before .if1 .taken) (rw (c .if2 .left) at (end-read _ _ _ (c .before .before .reading-at .ensures) (c .before .is-row-end .ensures)))
 
-returns-3 : tie.Need-returns-3
-unfolding nextRow nextRowAt
-returns-3 c = rw (c .if1 .left)
-
 pub next-row-at-spec : {M : Type 1} → statement M
-next-row-at-spec = tie.close (tie.spec (λ c κs. search needs) (λ c κs. search needs) returns returns-2 returns-3)
+unfolding nextRow nextRowAt
+next-row-at-spec = tie.close (tie.spec (λ c κs. search needs) (λ c κs. search needs) returns returns-2 (λ c. rw (c .if1 .left)))

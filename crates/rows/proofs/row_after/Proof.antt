@@ -5,8 +5,5 @@ use Rattle.rows.proofs.RowEnds.{started}
 use Rattle.rows.proofs.row_after.Statement.{statement}
 use Rattle.rows.proofs.row_after.Tie as tie
 
-returns : tie.Need-returns
-returns c = started _ _ _ (c .next-row-at .ensures)
-
 pub row-after-spec : {M : Type 1} → statement M
-row-after-spec = tie.close (tie.spec (λ c κs. search needs) returns)
+row-after-spec = tie.close (tie.spec (λ c κs. search needs) (λ c. started _ _ _ (c .next-row-at .ensures)))

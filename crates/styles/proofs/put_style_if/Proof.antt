@@ -6,11 +6,8 @@ use borrow.Author.Needs.{needs}
 use Rattle.styles.proofs.put_style_if.Statement.{statement}
 use Rattle.styles.proofs.put_style_if.Tie as tie
 
-returns : tie.Need-returns
-returns c = rw (c .before .before .before .before .if1 .taken) (c .before .before .put-style .ensures)
-
-returns-2 : tie.Need-returns-2
-returns-2 c = rw (c .if1 .left) (wrote-nothing _ _ (omega arith) (omega arith))
-
 pub put-style-if-spec : {M : Type 1} → statement M
-put-style-if-spec = tie.close (tie.spec (λ c κs. search needs) (λ c. search needs) returns returns-2)
+put-style-if-spec =
+    tie.close (tie.spec (λ c κs. search needs) (λ c. search needs)
+    (λ c. rw (c .before .before .before .before .if1 .taken) (c .before .before .put-style .ensures))
+    (λ c. rw (c .if1 .left) (wrote-nothing _ _ (omega arith) (omega arith))))

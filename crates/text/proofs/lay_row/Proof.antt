@@ -1,4 +1,4 @@
--- `lay_row` meets its contract.
+-- `lay_row` decodes a row into arrays as long as the row limit, and lays the spans of what they hold.
 -- Assumes nothing.
 use Prim.Native.Nat.{ℕ}
 use lib.ListN.{length-replicate}

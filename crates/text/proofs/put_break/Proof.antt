@@ -6,9 +6,6 @@ use Rattle.meaning.specs.Lists.{bytes}
 use Rattle.text.proofs.put_break.Statement.{statement}
 use Rattle.text.proofs.put_break.Tie as tie
 
-returns : tie.Need-returns
-unfolding writePiece bytes
-returns c = c .before .before .put .ensures
-
 pub put-break-spec : {M : Type 1} → statement M
-put-break-spec = tie.close (tie.spec (λ c. search needs) (λ c κs. search needs) (λ c. search needs) returns)
+unfolding writePiece bytes
+put-break-spec = tie.close (tie.spec (λ c. search needs) (λ c κs. search needs) (λ c. search needs) (λ c. c .before .before .put .ensures))

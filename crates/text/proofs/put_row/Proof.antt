@@ -17,34 +17,22 @@ abbrev μ-loop : tie.MeasureT-loop
 loop-holds : tie.Need-loop-holds Inv-loop μ-loop
 loop-holds c = spans-all _ _ _ (c .shown-range .ensures) (laid-nothing _ _ _ (omega arith) (search needs) (search needs))
 
-sub-put-span : tie.Need-sub-put-span Inv-loop μ-loop
-sub-put-span c =
+put-span-requires : tie.Need-put-span-requires Inv-loop μ-loop
+put-span-requires c κs =
     let s = c .before .before in
     let b = span-bounds _ _ _ (s .before .before .loop .inv) (s .span-at .ensures) (s .before .loop-test .taken) in
-    omega arith
-
-part-put-span-start : tie.Need-part-put-span-start Inv-loop μ-loop
-part-put-span-start c =
-    let s = c .before .before in
-    let b = span-bounds _ _ _ (s .before .before .loop .inv) (s .span-at .ensures) (s .before .loop-test .taken) in
-    search needs
-
-part-put-span-end : tie.Need-part-put-span-end Inv-loop μ-loop
-part-put-span-end c =
-    let s = c .before .before in
-    let b = span-bounds _ _ _ (s .before .before .loop .inv) (s .span-at .ensures) (s .before .loop-test .taken) in
-    search needs
+    (omega arith, b .2)
 
 loop-less : tie.Need-loop-less Inv-loop μ-loop
 loop-less c =
-    let s = c .before .before .before .before .before .before .before .before in
+    let s = c .before .before .before .before .before .before .before in
     let b = span-bounds _ _ _ (s .before .before .loop .inv) (s .span-at .ensures) (s .before .loop-test .taken) in
     omega arith
 
 loop-again : tie.Need-loop-again Inv-loop μ-loop
 loop-again c =
     let p = c .before .before .before .before in
-    let s = p .before .before .before .before in
+    let s = p .before .before .before in
     spans-less _ _ _ (s .before .before .loop .inv) (s .span-at .ensures) (s .before .loop-test .taken) (p .put-span .ensures)
 
 returns : tie.Need-returns Inv-loop μ-loop
@@ -52,5 +40,5 @@ returns c = spans-none _ _ _ (c .before .loop .inv) (c .loop-test .left)
 
 pub put-row-spec : {M : Type 1} → statement M
 put-row-spec =
-    tie.close (tie.spec Inv-loop μ-loop (λ c κs. tt) loop-holds (λ c κs. tt) (λ c. search needs) sub-put-span part-put-span-start
-    part-put-span-end (λ c κs. tt) loop-less loop-again (λ c. laid-lengths (returns c) .0) (λ c. laid-lengths (returns c) .1) returns)
+    tie.close (tie.spec Inv-loop μ-loop (λ c κs. tt) loop-holds (λ c κs. tt) put-span-requires loop-less loop-again
+    (λ c. laid-lengths (returns c) .0) (λ c. laid-lengths (returns c) .1) returns)

@@ -15,7 +15,7 @@ returns c =
     let m = c .before .before .before in
     let c5 = m .before .before .before .before in
     let c4 = c5 .before .before .before .before .before in
-    let c3 = c4 .before .before .before .before in
+    let c3 = c4 .before .before .before .before .before in
     let c2 = c3 .before .before .before .before .before in
     let c1 = c2 .before .before .before .before in
     record {
@@ -27,5 +27,5 @@ returns c =
 pub put-span-spec : {M : Type 1} → statement M
 put-span-spec =
     tie.close (tie.spec (λ c. search needs) (λ c κs. search needs) (λ c κs. search needs) (λ c. search needs) (λ c κs. search needs)
-    (λ c κs. search needs) (λ c. search needs) (λ c κs. search needs) (λ c κs. search needs) (λ c κs. search needs) (λ c. search needs)
-    (λ c. search needs) returns)
+    (λ c. search needs) (λ c. search needs) (λ c. search needs) (λ c. search needs) (λ c κs. search needs) (λ c. search needs) (λ c κs. search needs)
+    (λ c κs. search needs) (λ c κs. search needs) (λ c. search needs) (λ c. search needs) returns)

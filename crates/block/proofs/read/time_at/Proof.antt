@@ -6,11 +6,8 @@ use Rattle.meaning.specs.Blocks.{timeAt}
 use Rattle.block.proofs.read.time_at.Statement.{statement}
 use Rattle.block.proofs.read.time_at.Tie as tie
 
-returns : tie.Need-returns
-unfolding timeAt
-returns c = refl
-
 pub time-at-spec : {M : Type 1} → statement M
+unfolding timeAt
 time-at-spec =
     tie.close (tie.spec (λ c. search needs) (λ c. search needs) (λ c. search needs) (λ c. search needs) (λ c. search needs)
-    (λ c. search needs) (λ c. search needs) returns)
+    (λ c. search needs) (λ c. search needs) (λ c. refl))

@@ -5,17 +5,10 @@ use Rattle.meaning.specs.Cells.{controlHere}
 use Rattle.cells.proofs.drawing.control_here.Statement.{statement}
 use Rattle.cells.proofs.drawing.control_here.Tie as tie
 
-returns : tie.Need-returns
-unfolding controlHere
-returns c = rw (c .match .keys1)
-
-returns-2 : tie.Need-returns-2
-unfolding controlHere
-returns-2 c = rw (c .match .keys2)
-
 returns-3 : tie.Need-returns-3
 unfolding controlHere
 returns-3 c = rw (ne-eqb _ 28 (c .match .rest .0 .1), ne-eqb _ 29 (c .match .rest .1))
 
 pub control-here-spec : {M : Type 1} → statement M
-control-here-spec = tie.close (tie.spec returns returns-2 returns-3)
+unfolding controlHere
+control-here-spec = tie.close (tie.spec (λ c. rw (c .match .keys1)) (λ c. rw (c .match .keys2)) returns-3)

@@ -5,9 +5,6 @@ use borrow.Author.Needs.{needs}
 use Rattle.cells.proofs.drawing.row_start.Statement.{statement}
 use Rattle.cells.proofs.drawing.row_start.Tie as tie
 
-returns : tie.Need-returns
-unfolding rowStart
-returns c = search needs
-
 pub row-start-spec : {M : Type 1} → statement M
-row-start-spec = tie.close (tie.spec (λ c κs. search needs) returns)
+unfolding rowStart
+row-start-spec = tie.close (tie.spec (λ c κs. search needs) (λ c. search needs))

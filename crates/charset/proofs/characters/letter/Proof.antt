@@ -2,27 +2,15 @@
 -- Assumes nothing.
 use native.Mathlib.Omega.{arith}
 use Rattle.meaning.specs.Characters.{letter}
-use Rattle.charset.proofs.Codes.{between}
+use Rattle.meaning.proofs.Logic.{between}
 use Rattle.charset.proofs.characters.letter.Statement.{statement}
 use Rattle.charset.proofs.characters.letter.Tie as tie
 
-sub-result : tie.Need-sub-result
-sub-result c = omega (arith, between 65 90 (c .before .args .c) (c .if1 .taken))
-
-returns : tie.Need-returns
-unfolding letter
-returns c = (rw (c .if1 .taken), omega (arith, between 65 90 (c .before .args .c) (c .if1 .taken)))
-
-sub-result-2 : tie.Need-sub-result-2
-sub-result-2 c = omega (arith, between 97 122 (c .before .before .args .c) (c .if2 .taken))
-
-returns-2 : tie.Need-returns-2
-unfolding letter
-returns-2 c = (rw (c .before .if1 .left, c .if2 .taken), omega (arith, between 97 122 (c .before .before .args .c) (c .if2 .taken)))
-
-returns-3 : tie.Need-returns-3
-unfolding letter
-returns-3 c = (rw (c .before .if1 .left, c .if2 .left), omega arith)
-
 pub letter-spec : {M : Type 1} → statement M
-letter-spec = tie.close (tie.spec sub-result returns sub-result-2 returns-2 returns-3)
+unfolding letter
+letter-spec =
+    tie.close (tie.spec (λ c. omega (arith, between 65 90 (c .before .args .c) (c .if1 .taken)))
+    (λ c. (rw (c .if1 .taken), omega (arith, between 65 90 (c .before .args .c) (c .if1 .taken))))
+    (λ c. omega (arith, between 97 122 (c .before .before .args .c) (c .if2 .taken)))
+    (λ c. (rw (c .before .if1 .left, c .if2 .taken), omega (arith, between 97 122 (c .before .before .args .c) (c .if2 .taken))))
+    (λ c. (rw (c .before .if1 .left, c .if2 .left), omega arith)))

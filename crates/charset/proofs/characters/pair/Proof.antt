@@ -4,8 +4,5 @@ use borrow.Author.Needs.{needs}
 use Rattle.charset.proofs.characters.pair.Statement.{statement}
 use Rattle.charset.proofs.characters.pair.Tie as tie
 
-returns : tie.Need-returns
-returns c = cc
-
 pub pair-spec : {M : Type 1} → statement M
-pair-spec = tie.close (tie.spec (λ c κs. search needs) (λ c κs. search needs) (λ c κs. search needs) returns)
+pair-spec = tie.close (tie.spec (λ c κs. search needs) (λ c κs. search needs) (λ c κs. search needs) (λ c. cc))

@@ -5,9 +5,6 @@ use Rattle.meaning.specs.Blocks.{isComment}
 use Rattle.meaning.proofs.Header.is_comment.Statement.{statement}
 use Rattle.meaning.proofs.Header.is_comment.Tie as tie
 
-returns : tie.Need-returns
-unfolding isComment
-returns c = search needs
-
 pub is-comment-spec : {M : Type 1} → statement M
-is-comment-spec = tie.close (tie.spec returns)
+unfolding isComment
+is-comment-spec = tie.close (tie.spec (λ c. search needs))

@@ -5,9 +5,6 @@ use Rattle.meaning.specs.Sets.{isUser}
 use Rattle.meaning.proofs.Header.is_user.Statement.{statement}
 use Rattle.meaning.proofs.Header.is_user.Tie as tie
 
-returns : tie.Need-returns
-unfolding isUser
-returns c = search needs
-
 pub is-user-spec : {M : Type 1} → statement M
-is-user-spec = tie.close (tie.spec returns)
+unfolding isUser
+is-user-spec = tie.close (tie.spec (λ c. search needs))

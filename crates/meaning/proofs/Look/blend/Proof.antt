@@ -5,9 +5,6 @@ use Rattle.meaning.specs.Looks.{blend}
 use Rattle.meaning.proofs.Look.blend.Statement.{statement}
 use Rattle.meaning.proofs.Look.blend.Tie as tie
 
-returns : tie.Need-returns
-unfolding blend
-returns c = search needs
-
 pub blend-spec : {M : Type 1} → statement M
-blend-spec = tie.close (tie.spec returns)
+unfolding blend
+blend-spec = tie.close (tie.spec (λ c. search needs))

@@ -5,9 +5,6 @@ use Rattle.meaning.specs.Looks.{free}
 use Rattle.meaning.proofs.Look.free.Statement.{statement}
 use Rattle.meaning.proofs.Look.free.Tie as tie
 
-returns : tie.Need-returns
-unfolding free
-returns c = search needs
-
 pub free-spec : {M : Type 1} → statement M
-free-spec = tie.close (tie.spec (λ c. search needs) returns)
+unfolding free
+free-spec = tie.close (tie.spec (λ c. search needs) (λ c. search needs))

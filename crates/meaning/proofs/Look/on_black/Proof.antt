@@ -5,9 +5,6 @@ use Rattle.meaning.specs.Looks.{onBlack}
 use Rattle.meaning.proofs.Look.on_black.Statement.{statement}
 use Rattle.meaning.proofs.Look.on_black.Tie as tie
 
-returns : tie.Need-returns
-unfolding onBlack
-returns c = search needs
-
 pub on-black-spec : {M : Type 1} → statement M
-on-black-spec = tie.close (tie.spec returns)
+unfolding onBlack
+on-black-spec = tie.close (tie.spec (λ c. search needs))

@@ -6,15 +6,9 @@ use borrow.Author.Needs.{needs}
 use Rattle.meaning.proofs.Look.pack.Statement.{statement}
 use Rattle.meaning.proofs.Look.pack.Tie as tie
 
-returns : tie.Need-returns
-unfolding pack
-returns c = rw (c .if1 .taken) (omega arith)
-
-returns-2 : tie.Need-returns-2
-unfolding pack
-returns-2 c = rw (c .if1 .left) (omega arith)
-
 pub pack-spec : {M : Type 1} → statement M
+unfolding pack
 pack-spec =
-    tie.close (tie.spec (λ c. search needs) (λ c. search needs) (λ c. search needs) (λ c. search needs) (λ c. search needs) returns
-    returns-2)
+    tie.close (tie.spec (λ c. search needs) (λ c. search needs) (λ c. search needs) (λ c. search needs) (λ c. search needs)
+    (λ c. rw (c .if1 .taken) (omega arith))
+    (λ c. rw (c .if1 .left) (omega arith)))

@@ -5,9 +5,6 @@ use borrow.Author.Needs.{needs}
 use Rattle.meaning.proofs.Look.unpack.Statement.{statement}
 use Rattle.meaning.proofs.Look.unpack.Tie as tie
 
-returns : tie.Need-returns
-unfolding unpack
-returns c = search needs
-
 pub unpack-spec : {M : Type 1} → statement M
-unpack-spec = tie.close (tie.spec (λ c. search needs) (λ c. search needs) returns)
+unfolding unpack
+unpack-spec = tie.close (tie.spec (λ c. search needs) (λ c. search needs) (λ c. search needs))

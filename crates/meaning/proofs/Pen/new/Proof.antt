@@ -6,9 +6,6 @@ use Rattle.meaning.specs.Cells.{newPen}
 use Rattle.meaning.proofs.Pen.new.Statement.{statement}
 use Rattle.meaning.proofs.Pen.new.Tie as tie
 
-returns : tie.Need-returns
-unfolding newPen whiteOnBlack
-returns c = search needs
-
 pub new-spec : {M : Type 1} → statement M
-new-spec = tie.close (tie.spec returns)
+unfolding newPen whiteOnBlack
+new-spec = tie.close (tie.spec (λ c. search needs))

@@ -5,17 +5,10 @@ use Rattle.meaning.specs.Refusals.{isGood, inTurn}
 use Rattle.meaning.proofs.Refusal.or.Statement.{statement}
 use Rattle.meaning.proofs.Refusal.or.Tie as tie
 
-returns : tie.Need-returns
-unfolding inTurn
-returns c = rw (c .if1 .taken)
-
 returns-2 : tie.Need-returns-2
 unfolding inTurn isGood
 returns-2 c = rw (c .before .before .if1 .left, ne-eqb _ 0 (c .if2 .taken))
 
-returns-3 : tie.Need-returns-3
-unfolding inTurn isGood
-returns-3 c = rw (c .before .before .if1 .left, eq-eqb _ 0 (c .if2 .left))
-
 pub or-spec : {M : Type 1} → statement M
-or-spec = tie.close (tie.spec returns returns-2 returns-3)
+unfolding inTurn isGood
+or-spec = tie.close (tie.spec (λ c. rw (c .if1 .taken)) returns-2 (λ c. rw (c .before .before .if1 .left, eq-eqb _ 0 (c .if2 .left))))

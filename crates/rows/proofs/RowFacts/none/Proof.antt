@@ -1,4 +1,4 @@
--- `RowFacts::none` meets its contract.
+-- `RowFacts::none` gives the facts of no tokens, which the definition computes.
 -- Assumes nothing.
 use borrow.Author.Needs.{needs}
 use Rattle.meaning.specs.Lists.{all, any, keep}
@@ -7,9 +7,6 @@ use Rattle.rows.specs.Scanning.{factsOfRow}
 use Rattle.rows.proofs.RowFacts.none.Statement.{statement}
 use Rattle.rows.proofs.RowFacts.none.Tie as tie
 
-returns : tie.Need-returns
-unfolding factsOfRow all any keep heightFirst
-returns c = search needs
-
 pub none-spec : {M : Type 1} → statement M
-none-spec = tie.close (tie.spec returns)
+unfolding factsOfRow all any keep heightFirst
+none-spec = tie.close (tie.spec (λ c. search needs))

@@ -5,9 +5,6 @@ use Rattle.rows.specs.Scanning.{withCharacters}
 use Rattle.rows.proofs.RowFacts.with_characters.Statement.{statement}
 use Rattle.rows.proofs.RowFacts.with_characters.Tie as tie
 
-returns : tie.Need-returns
-unfolding withCharacters
-returns c = rw (c .before .capped-sum .ensures)
-
 pub with-characters-spec : {M : Type 1} → statement M
-with-characters-spec = tie.close (tie.spec (λ c κs. search needs) returns)
+unfolding withCharacters
+with-characters-spec = tie.close (tie.spec (λ c κs. search needs) (λ c. rw (c .before .capped-sum .ensures)))

@@ -1,4 +1,4 @@
--- `TextFacts::none` meets its contract.
+-- `TextFacts::none` gives the facts of no rows, which the definition computes.
 -- Assumes nothing.
 use borrow.Author.Needs.{needs}
 use Rattle.meaning.specs.Lists.{all, any}
@@ -6,9 +6,6 @@ use Rattle.rows.specs.Scanning.{factsOfRows}
 use Rattle.rows.proofs.TextFacts.none.Statement.{statement}
 use Rattle.rows.proofs.TextFacts.none.Tie as tie
 
-returns : tie.Need-returns
-unfolding factsOfRows all any
-returns c = search needs
-
 pub none-spec : {M : Type 1} → statement M
-none-spec = tie.close (tie.spec returns)
+unfolding factsOfRows all any
+none-spec = tie.close (tie.spec (λ c. search needs))

@@ -5,13 +5,9 @@ use borrow.Author.Needs.{needs}
 use Rattle.spans.proofs.joining.foreground_with.Statement.{statement}
 use Rattle.spans.proofs.joining.foreground_with.Tie as tie
 
-returns : tie.Need-returns
-unfolding foregroundWith
-returns c = rw (← (c .before .before .is-blank .ensures), c .if1 .taken)
-
-returns-2 : tie.Need-returns-2
-unfolding foregroundWith
-returns-2 c = rw (← (c .before .before .is-blank .ensures), c .if1 .left)
-
 pub foreground-with-spec : {M : Type 1} → statement M
-foreground-with-spec = tie.close (tie.spec (λ c κs. search needs) returns returns-2)
+unfolding foregroundWith
+foreground-with-spec =
+    tie.close (tie.spec (λ c κs. search needs)
+    (λ c. rw (← (c .before .before .is-blank .ensures), c .if1 .taken))
+    (λ c. rw (← (c .before .before .is-blank .ensures), c .if1 .left)))

@@ -6,9 +6,6 @@ use Rattle.cells.specs.Arrays.{packedCell}
 use Rattle.spans.proofs.joining.is_blank.Statement.{statement}
 use Rattle.spans.proofs.joining.is_blank.Tie as tie
 
-returns : tie.Need-returns
-unfolding isBlank packedCell
-returns c = search needs
-
 pub is-blank-spec : {M : Type 1} → statement M
-is-blank-spec = tie.close (tie.spec returns)
+unfolding isBlank packedCell
+is-blank-spec = tie.close (tie.spec (λ c. search needs))

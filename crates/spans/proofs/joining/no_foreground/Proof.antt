@@ -6,9 +6,6 @@ use Rattle.spans.specs.Foregrounds.{noForeground}
 use Rattle.spans.proofs.joining.no_foreground.Statement.{statement}
 use Rattle.spans.proofs.joining.no_foreground.Tie as tie
 
-returns : tie.Need-returns
-unfolding noForeground whiteOnBlack
-returns c = rw (c .pack .ensures)
-
 pub no-foreground-spec : {M : Type 1} → statement M
-no-foreground-spec = tie.close (tie.spec (λ c κs. search needs) returns)
+unfolding noForeground whiteOnBlack
+no-foreground-spec = tie.close (tie.spec (λ c κs. search needs) (λ c. rw (c .pack .ensures)))

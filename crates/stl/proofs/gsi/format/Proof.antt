@@ -5,9 +5,6 @@ use Rattle.meaning.specs.Gsi.{teletext, formatOf}
 use Rattle.stl.proofs.gsi.format.Statement.{statement}
 use Rattle.stl.proofs.gsi.format.Tie as tie
 
-returns : tie.Need-returns
-unfolding teletext formatOf
-returns c = rw (c .rate .ensures)
-
 pub format-spec : {M : Type 1} → statement M
-format-spec = tie.close (tie.spec (λ c κs. search needs) returns)
+unfolding teletext formatOf
+format-spec = tie.close (tie.spec (λ c κs. search needs) (λ c. rw (c .rate .ensures)))

@@ -5,9 +5,6 @@ use Rattle.meaning.specs.Gsi.{isDigit}
 use Rattle.stl.proofs.gsi.is_digit.Statement.{statement}
 use Rattle.stl.proofs.gsi.is_digit.Tie as tie
 
-returns : tie.Need-returns
-unfolding isDigit
-returns c = search needs
-
 pub is-digit-spec : {M : Type 1} → statement M
-is-digit-spec = tie.close (tie.spec returns)
+unfolding isDigit
+is-digit-spec = tie.close (tie.spec (λ c. search needs))

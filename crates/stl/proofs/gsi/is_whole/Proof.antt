@@ -5,11 +5,5 @@ use Rattle.meaning.specs.Blocks.{gsiSize}
 use Rattle.stl.proofs.gsi.is_whole.Statement.{statement}
 use Rattle.stl.proofs.gsi.is_whole.Tie as tie
 
-returns : tie.Need-returns
-returns c = rw (lt-leb gsiSize _ (c .if1 .taken))
-
-returns-2 : tie.Need-returns-2
-returns-2 c = rw (le-leb gsiSize _ (c .if1 .left))
-
 pub is-whole-spec : {M : Type 1} → statement M
-is-whole-spec = tie.close (tie.spec returns returns-2)
+is-whole-spec = tie.close (tie.spec (λ c. rw (lt-leb gsiSize _ (c .if1 .taken))) (λ c. rw (le-leb gsiSize _ (c .if1 .left))))

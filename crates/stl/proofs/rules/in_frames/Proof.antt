@@ -20,11 +20,8 @@ add-result-3 c =
     let h : (a .t .hours * 60 + a .t .minutes) * 60 + a .t .seconds ≤ 1000000 = omega arith in
     omega (arith, mul-le-mul-right (a .rate) h)
 
-returns : tie.Need-returns
-unfolding inFrames
-returns c = search needs
-
 pub in-frames-spec : {M : Type 1} → statement M
+unfolding inFrames
 in-frames-spec =
     tie.close (tie.spec (λ c. search needs) (λ c. search needs) (λ c. search needs) (λ c. search needs) (λ c. search needs)
-    (λ c. search needs) (λ c. search needs) mul-result-3 (λ c. search needs) add-result-3 returns)
+    (λ c. search needs) (λ c. search needs) mul-result-3 (λ c. search needs) add-result-3 (λ c. search needs))

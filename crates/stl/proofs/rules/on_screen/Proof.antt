@@ -5,9 +5,6 @@ use Rattle.meaning.specs.Blocks.{onScreen}
 use Rattle.stl.proofs.rules.on_screen.Statement.{statement}
 use Rattle.stl.proofs.rules.on_screen.Tie as tie
 
-returns : tie.Need-returns
-unfolding onScreen
-returns c = search needs
-
 pub on-screen-spec : {M : Type 1} → statement M
-on-screen-spec = tie.close (tie.spec returns)
+unfolding onScreen
+on-screen-spec = tie.close (tie.spec (λ c. search needs))
