@@ -19,7 +19,7 @@ use crate::convert;
 use crate::dice::Dice;
 use limits::paper_case;
 use ordinary::ordinary;
-use strange::{giant, raw_text};
+use strange::{full, giant, raw_text};
 
 /// One test: the break mode, the file, and the length of the output buffer.
 #[derive(PartialEq, Eq, Debug, Clone)]
@@ -34,7 +34,8 @@ pub fn sample(seed: u64) -> Sample {
     let mut dice = Dice::new(seed);
     let mut plan = match dice.below(600) {
         0..=1 => giant(&mut dice),
-        2..=89 => paper_case(&mut dice),
+        2..=5 => full(&mut dice),
+        6..=89 => paper_case(&mut dice),
         90..=125 => raw_text(&mut dice),
         _ => ordinary(&mut dice),
     };

@@ -32,6 +32,36 @@ pub(super) fn raw_text(dice: &mut Dice) -> Plan {
     plan
 }
 
+/// One set of 14 to 18 blocks, each full of text: the proved converter has less
+/// room for the text of a set in files of up to 16 blocks.
+pub(super) fn full(dice: &mut Dice) -> Plan {
+    let mut plan = Plan::new(dice);
+    let count = dice.between(14, 18);
+    if dice.chance(10) {
+        plan.blocks = comment_blocks(dice, 1, count);
+    } else {
+        // Rows of 64 accents with letters, and a last one.
+        let row = [[0xC2, b'e'].repeat(64), vec![0x8A]].concat();
+        let mut text: Vec<u8> = row.into_iter().cycle().take(112 * count).collect();
+        // No accent is cut off at the end.
+        let last = text.len() - 1;
+        text[last] = dice.pick(b"xx\x08");
+        if text[last - 1] == 0xC2 {
+            text[last - 1] = b'x';
+        }
+        let header = good_header(dice, 1, plan.rate);
+        let pieces: Vec<Vec<u8>> = text.chunks(112).map(<[u8]>::to_vec).collect();
+        let position = dice.pick(&[1, 2, 23]);
+        plan.blocks = set(dice, &header, position, &pieces);
+    }
+    if dice.chance(30) {
+        let at = dice.between(0, plan.blocks.len());
+        let block = user_block(dice);
+        plan.blocks.insert(at, block);
+    }
+    plan
+}
+
 /// Sets of 241 blocks, the most there can be, and of one more.
 pub(super) fn giant(dice: &mut Dice) -> Plan {
     let mut plan = Plan::new(dice);
