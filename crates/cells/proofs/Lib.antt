@@ -1,3 +1,4 @@
+pub mod Keeping
 pub mod Decoding
 pub mod ReadBack
 pub mod Laws

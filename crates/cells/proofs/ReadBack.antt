@@ -34,16 +34,18 @@ cell-back characters looks i c xs ys s h k =
     let e = ap unpack (stored-first looks i (packedLook c) ys k) ∙ unpack-pack (c .look) (s .look) in
     λ j. record { character = stored-first characters i (character c) xs h j; look = e j }
 
-pub read-back : (n : ℕ) (cs : List Cell) (characters looks : List ℕ) (i : ℕ) → All Sound cs → n ≤ length cs
+-- n of the m that were stored
+pub read-back : (n m : ℕ) (cs : List Cell) (characters looks : List ℕ) (i : ℕ) → All Sound cs → n ≤ length cs → n ≤ m
     → i + n ≤ length characters → i + n ≤ length looks
-    → cellsAt (stored characters i (map character cs)) (stored looks i (map packedLook cs)) i n ≡ take n cs
+    → cellsAt (stored characters i (take m (map character cs))) (stored looks i (take m (map packedLook cs))) i n ≡ take n cs
 unfolding cellsAt stored
-read-back zero cs characters looks i s h p q = refl
-read-back (suc n) [] characters looks i s h p q = absurd (not-suc-le-zero h)
-read-back (suc n) (c ∷ cs) characters looks i (cons s t) h p q =
+read-back zero m cs characters looks i s h g p q = refl
+read-back (suc n) zero cs characters looks i s h g p q = absurd (not-suc-le-zero g)
+read-back (suc n) (suc m) [] characters looks i s h g p q = absurd (not-suc-le-zero h)
+read-back (suc n) (suc m) (c ∷ cs) characters looks i (cons s t) h g p q =
     λ j.
-    cell-back characters looks i c (map character cs) (map packedLook cs) s (omega arith) (omega arith) j
-    ∷ read-back n cs (set characters i (character c)) (set looks i (packedLook c)) (suc i) t (le-of-suc-le-suc h)
+    cell-back characters looks i c (take m (map character cs)) (take m (map packedLook cs)) s (omega arith) (omega arith) j
+    ∷ read-back n m cs (set characters i (character c)) (set looks i (packedLook c)) (suc i) t (le-of-suc-le-suc h) (le-of-suc-le-suc g)
     (omega (arith, length-set characters i (character c)))
     (omega (arith, length-set looks i (packedLook c)))
     j

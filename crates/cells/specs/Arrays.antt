@@ -1,9 +1,12 @@
--- Cells kept in two arrays, their characters and their packed looks.
+-- Cells kept in two arrays, their characters and their packed looks; a pen kept packed.
 -- Assumes nothing.
-use Prim.Native.Nat.{ℕ, zero, suc}
+use Prim.Native.Nat.{ℕ, zero, suc, _-_, min}
+use mathlib.Core.Path.{_≡_}
 use mathlib.Core.List.{List, [], _∷_}
-use lib.ListN.{getD}
+use lib.ListN.{length, getD, take}
 use Rattle.meaning.specs.Looks.{pack, unpack}
+use Rattle.meaning.specs.declared.Pen.{Pen}
+use Rattle.output.specs.Output.{stored}
 use Rattle.meaning.specs.Cells.{Cell}
 
 -- what is kept of a cell
@@ -16,6 +19,25 @@ packedLook c = pack (c .look)
 -- a cell from what is kept of it
 unfoldable pub packedCell : ℕ → ℕ → Cell
 packedCell p n = record { character = p; look = unpack n }
+
+-- the cells that both arrays have a place for; and of values from place k on, those that have one of n places
+abbrev pub places : List ℕ → List ℕ → ℕ
+places characters looks = min (length characters) (length looks)
+
+abbrev pub kept : ℕ → ℕ → List ℕ → List ℕ
+kept n k xs = take (n - k) xs
+
+-- the cells of these characters and looks stored from place k on, those that have a place
+abbrev pub CellsStored : List ℕ → List ℕ → ℕ → List ℕ → List ℕ → List ℕ → List ℕ → Type 0
+CellsStored characters looks k xs ys characters′ looks′ =
+    (characters′ ≡ stored characters k (kept (places characters looks) k xs)) × (looks′ ≡ stored looks k (kept (places characters looks) k ys))
+
+-- a pen kept packed, as the number of its look
+abbrev pub penOf : ℕ → Pen
+penOf n = record { look = unpack n }
+
+abbrev pub packedPen : Pen → ℕ
+packedPen p = pack (p .look)
 
 abbrev pub cellAt : List ℕ → List ℕ → ℕ → Cell
 cellAt characters looks k = packedCell (getD characters k 0) (getD looks k 0)

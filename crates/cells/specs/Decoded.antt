@@ -9,12 +9,11 @@ use Rattle.meaning.specs.Codes.{tokens}
 use Rattle.meaning.specs.declared.Token.the-variants.{Character}
 use Rattle.meaning.specs.declared.Pen.{Pen}
 use Rattle.meaning.specs.Cells.{Cell, cellOf, cellsOfRow, penAfterRow}
-use Rattle.output.specs.Output.{stored}
 use Rattle.charset.specs.Reading.{afterRowAt}
 use Rattle.meaning.specs.Rows.{firstRow}
 use Rattle.rows.specs.Scanned.{isEnded}
 use Rattle.cells.specs.declared.RowRead.{RowRead}
-use Rattle.cells.specs.Arrays.{character, packedLook}
+use Rattle.cells.specs.Arrays.{character, packedLook, CellsStored, penOf, packedPen}
 
 abbrev pub tokensFrom : List ℕ → ℕ → List Token
 tokensFrom text i = tokens (drop i text)
@@ -32,10 +31,9 @@ runCells pen cs = map (runCell pen) cs
 
 -- the arrays at entry and at exit, and the result
 pub record Decoded
-    (text : List ℕ) (start : ℕ) (pen : Pen) (characters looks characters′ looks′ : List ℕ) (r : RowRead) : Type 0 where
-  pub on-characters : characters′ ≡ stored characters 0 (map character (rowAt text start pen))
-  pub on-looks : looks′ ≡ stored looks 0 (map packedLook (rowAt text start pen))
-  pub count : r .cells ≡ length (rowAt text start pen)
+    (text : List ℕ) (start pen : ℕ) (characters looks characters′ looks′ : List ℕ) (r : RowRead) : Type 0 where
+  pub held : CellsStored characters looks 0 (map character (rowAt text start (penOf pen))) (map packedLook (rowAt text start (penOf pen))) characters′ looks′
+  pub count : r .cells ≡ length (rowAt text start (penOf pen))
   pub ended : r .ended ≡ isEnded (tokensFrom text start)
   pub next : r .next ≡ afterRowAt text start
-  pub after : r .pen ≡ penAfterRow pen (firstRow (tokensFrom text start))
+  pub after : r .pen ≡ packedPen (penAfterRow (penOf pen) (firstRow (tokensFrom text start)))

@@ -1,86 +1,126 @@
-// The cell that a token draws under a pen, and the pen that it leaves.
+// What a token draws under a pen, which is kept packed, as the number of its look.
 
 ghost use mathlib.Core.Path.{_≡_};
+ghost use Prim.Native.Nat.{_<_};
 ghost use lib.ListN.{drop};
-ghost use Rattle.meaning.specs.Codes.{tokens};
-ghost use Rattle.meaning.specs.Cells.{controlHere, controlNext, cellOf, penAfter, rowStart};
+ghost use Rattle.meaning.specs.Looks.{lookCount, withBackground, withColour, pack, unpack};
+ghost use Rattle.meaning.specs.Codes.{tokens, takesCell};
+ghost use Rattle.meaning.specs.Cells.{cellCharacter, controlHere, controlNext, switched, lookHere, lookNext, rowStart};
 ghost use Rattle.meaning.specs.Rows.{firstRow};
+ghost use Rattle.cells.specs.Arrays.{penOf};
 use crate::BLANK;
 use meaning::Look;
-use meaning::Pen;
 use meaning::Token;
 
-pub(crate) struct Drawn {
-    pub character: u16,
-    pub look: Look,
+fn with_background(pen: u16, background: u8) -> u16
+    ensures { λ r. ⌜ r ≡ pack (withBackground background (unpack pen)) ⌝ }
+{
+    let mut look = Look::unpack(pen);
+    look.background = background;
+    look.pack()
+}
+
+fn with_colour(pen: u16, colour: u8) -> u16
+    ensures { λ r. ⌜ r ≡ pack (withColour colour (unpack pen)) ⌝ }
+{
+    let mut look = Look::unpack(pen);
+    look.colour = colour;
+    look.pack()
 }
 
 // 1Ch and 1Dh hold at their own cell.
-fn control_here(c: u8, l: Look) -> Look
-    ensures { λ r. ⌜ r ≡ controlHere c l ⌝ }
+fn control_here(c: u8, pen: u16) -> u16
+    requires { ⌜ pen < lookCount ⌝ }
+    ensures { λ r. ⌜ r ≡ pack (controlHere c (unpack pen)) ⌝ }
 {
-    let background = match c {
-        28 => Look::BLACK,
-        29 => l.colour,
-        _ => l.background,
-    };
-    Look {
-        double: l.double,
-        background,
-        colour: l.colour,
+    match c {
+        28 => with_background(pen, Look::BLACK),
+        29 => with_background(pen, Look::unpack(pen).colour),
+        _ => pen,
     }
 }
 
 // A colour holds from the next cell on.
-fn control_next(c: u8, l: Look) -> Look
-    ensures { λ r. ⌜ r ≡ controlNext c l ⌝ }
+fn control_next(c: u8, pen: u16) -> u16
+    requires { ⌜ pen < lookCount ⌝ }
+    ensures { λ r. ⌜ r ≡ pack (controlNext c (controlHere c (unpack pen))) ⌝ }
 {
-    let colour = if c < 8 { c } else { l.colour };
-    Look {
-        double: l.double,
-        background: l.background,
-        colour,
+    if c < 8 {
+        return with_colour(pen, c);
     }
+    control_here(c, pen)
 }
 
-pub(crate) fn cell_of(token: Token, pen: Pen) -> Drawn
-    ensures { λ r. ⌜ (r .character ≡ cellOf token pen .character) × (r .look ≡ cellOf token pen .look) ⌝ }
+// Italics and underline hold from the next cell on.
+fn switched(c: u8, pen: u16) -> u16
+    ensures { λ r. ⌜ r ≡ pack (switched c (unpack pen)) ⌝ }
 {
-    let look = pen.look;
+    let l = Look::unpack(pen);
+    let mut look = l;
+    look.italics = (c == 128) | (l.italics & (c != 129));
+    look.underline = (c == 130) | (l.underline & (c != 131));
+    look.pack()
+}
+
+pub(crate) fn takes_cell(token: Token) -> bool
+    ensures { λ r. ⌜ r ≡ takesCell token ⌝ }
+{
     match token {
-        Token::Character(p) => Drawn { character: p, look },
-        Token::Control(c) => Drawn {
-            character: BLANK,
-            look: control_here(c, look),
-        },
-        Token::RowEnd => Drawn {
-            character: BLANK,
-            look,
-        },
-        Token::Unlisted => Drawn {
-            character: BLANK,
-            look,
-        },
+        Token::Character(_) => true,
+        Token::Control(_) => true,
+        Token::Switch(_) => false,
+        Token::RowEnd => true,
+        Token::Unlisted => true,
     }
 }
 
-pub(crate) fn pen_after(token: Token, pen: Pen) -> Pen
-    ensures { λ r. ⌜ r ≡ penAfter token pen ⌝ }
+pub(crate) fn cell_character(token: Token) -> u16
+    ensures { λ r. ⌜ r ≡ cellCharacter token ⌝ }
+{
+    match token {
+        Token::Character(p) => p,
+        Token::Control(_) => BLANK,
+        Token::Switch(_) => BLANK,
+        Token::RowEnd => BLANK,
+        Token::Unlisted => BLANK,
+    }
+}
+
+// The look of a token's cell.
+pub(crate) fn look_here(token: Token, pen: u16) -> u16
+    requires { ⌜ pen < lookCount ⌝ }
+    ensures { λ r. ⌜ r ≡ pack (lookHere token (unpack pen)) ⌝ }
 {
     match token {
         Token::Character(_) => pen,
-        Token::Control(c) => {
-            let look = control_next(c, control_here(c, pen.look));
-            Pen { look }
-        }
+        Token::Control(c) => control_here(c, pen),
+        Token::Switch(_) => pen,
         Token::RowEnd => pen,
         Token::Unlisted => pen,
     }
 }
 
-// The pen at the start of the row that starts at a position. The row's codes make no difference.
-pub(crate) fn row_start(text: &[u8], start: usize, pen: Pen) -> Pen
-    ensures { λ r. ⌜ r ≡ rowStart (firstRow (tokens (drop start (now (text .entry))))) pen ⌝ }
+// The pen after a token.
+pub(crate) fn look_next(token: Token, pen: u16) -> u16
+    requires { ⌜ pen < lookCount ⌝ }
+    ensures { λ r. ⌜ r ≡ pack (lookNext token (unpack pen)) ⌝ }
 {
-    Pen::new(pen.look.double)
+    match token {
+        Token::Character(_) => pen,
+        Token::Control(c) => control_next(c, pen),
+        Token::Switch(c) => switched(c, pen),
+        Token::RowEnd => pen,
+        Token::Unlisted => pen,
+    }
+}
+
+// The pen at the start of the row that starts at a position: white on black; height, italics and underline hold on. The
+// row's codes make no difference.
+pub(crate) fn row_start(text: &[u8], start: usize, pen: u16) -> u16
+    ensures { λ r. ⌜ r ≡ pack (rowStart (firstRow (tokens (drop start (now (text .entry))))) (penOf pen) .look) ⌝ }
+{
+    let mut first = Look::unpack(pen);
+    first.background = Look::BLACK;
+    first.colour = Look::WHITE;
+    first.pack()
 }

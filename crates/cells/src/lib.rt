@@ -1,16 +1,15 @@
-// One row of a text, decoded into two lent arrays.
+// One row of a text, decoded into two lent arrays. The pen is kept packed, as looks are: then a run of codes and most tokens
+// hand it on as it is.
 
 ghost use mathlib.Core.Path.{_≡_};
-ghost use mathlib.Core.List.{map};
-ghost use Prim.Native.Nat.{_+_, _-_, _<_, _≤_, _^_};
-ghost use lib.ListN.{length, set, take, drop, replicate};
-ghost use Rattle.meaning.specs.Looks.{pack};
+ghost use mathlib.Core.List.{[], _∷_, map};
+ghost use Prim.Native.Nat.{_+_, _-_, _<_, _≤_, _^_, min};
+ghost use lib.ListN.{length, take, drop, replicate};
+ghost use Rattle.meaning.specs.Looks.{lookCount};
 ghost use Rattle.meaning.specs.Cells.{cellsOf};
 ghost use Rattle.output.specs.Output.{stored};
-ghost use Rattle.cells.specs.Arrays.{character, packedLook};
+ghost use Rattle.cells.specs.Arrays.{character, packedLook, penOf, CellsStored};
 ghost use Rattle.cells.specs.Decoded.{runCells, Decoded};
-use meaning::Look;
-use meaning::Pen;
 use meaning::Token;
 
 mod drawing;
@@ -19,70 +18,60 @@ mod drawing;
 pub const BLANK: u16 = 32;
 
 // A row that was read: how many cells it has, whether a row end follows it, the position after that, and the pen after the
-// row.
+// row, packed.
 pub struct RowRead {
     pub cells: usize,
     pub ended: bool,
     pub next: usize,
-    pub pen: Pen,
+    pub pen: u16,
 }
 
-fn put_character(characters: &mut [u16], k: usize, p: u16)
-    ensures { λ _. ⌜ now (characters .exit) ≡ set (now (characters .entry)) k p ⌝ }
+pub fn least(a: usize, b: usize) -> usize
+    ensures { λ r. ⌜ r ≡ min a b ⌝ }
 {
-    if k < characters.len() {
-        characters[k] = p;
+    if a <= b { a } else { b }
+}
+
+// A cell has a place if both arrays have one for it.
+fn store(characters: &mut [u16], looks: &mut [u16], k: usize, character: u16, look: u16)
+    ensures { λ _. ⌜ CellsStored (now (characters .entry)) (now (looks .entry)) k (character ∷ []) (look ∷ []) (now (characters .exit)) (now (looks .exit)) ⌝ }
+{
+    if k < least(characters.len(), looks.len()) {
+        characters[k] = character;
+        looks[k] = look;
     }
 }
 
-// A look is kept packed.
-fn put_look(looks: &mut [u16], k: usize, look: Look)
-    ensures { λ _. ⌜ now (looks .exit) ≡ set (now (looks .entry)) k (pack look) ⌝ }
+// The cell of a token, where it takes one, and how many cells there are then.
+fn put_cell(characters: &mut [u16], looks: &mut [u16], k: usize, token: Token, pen: u16) -> usize
+    requires { ⌜ (k + 1 < 2 ^ 64) × (pen < lookCount) ⌝ }
+    ensures held { λ r. ⌜ CellsStored (now (characters .entry)) (now (looks .entry)) k (map character (cellsOf token (penOf pen))) (map packedLook (cellsOf token (penOf pen))) (now (characters .exit)) (now (looks .exit)) ⌝ }
+    ensures count { λ r. ⌜ r ≡ k + length (cellsOf token (penOf pen)) ⌝ }
 {
-    if k < looks.len() {
-        looks[k] = look.pack();
+    if !drawing::takes_cell(token) {
+        return k;
     }
-}
-
-// Each code is its own character. The places are counted once, before the loop.
-fn put_characters(characters: &mut [u16], k: usize, codes: &[u8])
-    ensures { λ _. ⌜ now (characters .exit) ≡ stored (now (characters .entry)) k (now (codes .entry)) ⌝ }
-{
-    let n = output::fitting(characters.len(), k, codes.len());
-    let mut j = 0;
-    while j < n {
-        characters[k + j] = codes[j] as u16;
-        j += 1;
-    }
-}
-
-// n cells of one look.
-fn put_looks(looks: &mut [u16], k: usize, n: usize, look: Look)
-    ensures { λ _. ⌜ now (looks .exit) ≡ stored (now (looks .entry)) k (replicate n (pack look)) ⌝ }
-{
-    let packed = look.pack();
-    let n = output::fitting(looks.len(), k, n);
-    let mut j = 0;
-    while j < n {
-        looks[k + j] = packed;
-        j += 1;
-    }
-}
-
-// The cell of a token, and how many cells there are then. Every token takes one.
-fn put_cell(characters: &mut [u16], looks: &mut [u16], k: usize, token: Token, pen: Pen) -> usize
-    requires { ⌜ k + 1 < 2 ^ 64 ⌝ }
-    ensures { λ r. ⌜ (now (characters .exit) ≡ stored (now (characters .entry)) k (map character (cellsOf token pen))) × (now (looks .exit) ≡ stored (now (looks .entry)) k (map packedLook (cellsOf token pen))) × (r ≡ k + length (cellsOf token pen)) ⌝ }
-{
-    let cell = drawing::cell_of(token, pen);
-    put_character(characters, k, cell.character);
-    let look = cell.look;
-    put_look(looks, k, look);
+    let character = drawing::cell_character(token);
+    let look = drawing::look_here(token, pen);
+    store(characters, looks, k, character, look);
     k + 1
 }
 
+// Each code is its own character, and all have the pen's look.
+fn put_codes(characters: &mut [u16], looks: &mut [u16], k: usize, codes: &[u8], pen: u16)
+    requires { ⌜ (length (now codes) ≤ length (now characters) - k) × (length (now codes) ≤ length (now looks) - k) ⌝ }
+    ensures { λ _. ⌜ (now (characters .exit) ≡ stored (now (characters .entry)) k (now (codes .entry))) × (now (looks .exit) ≡ stored (now (looks .entry)) k (replicate (length (now (codes .entry))) pen)) ⌝ }
+{
+    let mut j = 0;
+    while j < codes.len() {
+        characters[k + j] = codes[j] as u16;
+        looks[k + j] = pen;
+        j += 1;
+    }
+}
+
 // The cells of the plain codes from one position up to another, which leave the pen as it is, and how many cells there are
-// then.
+// then. The places are counted before they are stored.
 fn put_run(
     characters: &mut [u16],
     looks: &mut [u16],
@@ -90,15 +79,15 @@ fn put_run(
     text: &[u8],
     from: usize,
     to: usize,
-    pen: Pen,
+    pen: u16,
 ) -> usize
-    requires { ⌜ (from ≤ to) × (to ≤ length (now text)) × (k + (to - from) < 2 ^ 64) ⌝ }
-    ensures { λ r. ⌜ (now (characters .exit) ≡ stored (now (characters .entry)) k (map character (runCells pen (take (to - from) (drop from (now (text .entry))))))) × (now (looks .exit) ≡ stored (now (looks .entry)) k (map packedLook (runCells pen (take (to - from) (drop from (now (text .entry))))))) × (r ≡ k + (to - from)) ⌝ }
+    requires { ⌜ (from ≤ to) × (to ≤ length (now text)) × (k + (to - from) < 2 ^ 64) × (pen < lookCount) ⌝ }
+    ensures held { λ r. ⌜ CellsStored (now (characters .entry)) (now (looks .entry)) k (map character (runCells (penOf pen) (take (to - from) (drop from (now (text .entry)))))) (map packedLook (runCells (penOf pen) (take (to - from) (drop from (now (text .entry)))))) (now (characters .exit)) (now (looks .exit)) ⌝ }
+    ensures count { λ r. ⌜ r ≡ k + (to - from) ⌝ }
 {
     let n = to - from;
-    put_characters(characters, k, &text[from..to]);
-    let look = pen.look;
-    put_looks(looks, k, n, look);
+    let few = output::fitting(least(characters.len(), looks.len()), k, n);
+    put_codes(characters, looks, k, &text[from..from + few], pen);
     k + n
 }
 
@@ -107,7 +96,7 @@ fn put_run(
 pub fn decode_row(
     text: &[u8],
     start: usize,
-    before: Pen,
+    before: u16,
     characters: &mut [u16],
     looks: &mut [u16],
 ) -> RowRead
@@ -128,7 +117,7 @@ pub fn decode_row(
             };
         }
         n = put_cell(characters, looks, n, token, pen);
-        pen = drawing::pen_after(token, pen);
+        pen = drawing::look_next(token, pen);
         let after = reading.next;
         i = charset::plain_end(text, after);
         n = put_run(characters, looks, n, text, after, i, pen);

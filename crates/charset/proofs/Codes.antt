@@ -6,11 +6,11 @@ use mathlib.Core.Path.{_≡_, refl, sym, _∙_}
 use mathlib.Core.Bool.{true, false, cond, not, _&&_}
 use lib.Dec.{ltb, leb, eqb}
 use lib.ListN.{getD, drop}
-use borrow.Author.Tests.{lt-ltb, le-ltb, le-leb, ne-eqb, eqb-true, eqb-false, ltb-false, not-true}
-use Rattle.meaning.specs.declared.Token.the-variants.{Character, Control, Unlisted}
+use borrow.Author.Tests.{lt-ltb, le-ltb, le-leb, lt-leb, ne-eqb, eqb-true, eqb-false, ltb-false, not-true}
+use Rattle.meaning.specs.declared.Token.the-variants.{Character, Control, Switch, Unlisted}
 use Rattle.meaning.specs.Tables.{latinTable, composedTable}
 use Rattle.meaning.specs.Characters.{latin, composed}
-use Rattle.meaning.specs.Codes.{isControl, characterOf, codeToken}
+use Rattle.meaning.specs.Codes.{isControl, isSwitch, characterOf, codeToken}
 use Rattle.meaning.proofs.Logic.{by-test, by-le, false-not-true, and-parts, between}
 use Rattle.charset.specs.Plain.{isPlain}
 use Rattle.charset.proofs.Table.{every, at}
@@ -58,21 +58,29 @@ control-below c h =
       ne-eqb c 29 (omega arith),
     )
 
--- a code that is no row end and no control
-as-character : (c : ℕ) → (c ≡ 138 → ⊥) → isControl c ≡ false → codeToken c ≡ characterOf (latin c)
+switch-above : (c : ℕ) → c < 128 → isSwitch c ≡ false
+unfolding isSwitch
+switch-above c h = rw (lt-leb 128 c h)
+
+switch-below : (c : ℕ) → 132 ≤ c → isSwitch c ≡ false
+unfolding isSwitch
+switch-below c h = rw (le-leb 128 c (omega arith), lt-leb c 131 h)
+
+-- a code that is no row end, no control and no switch
+as-character : (c : ℕ) → (c ≡ 138 → ⊥) → isControl c ≡ false → isSwitch c ≡ false → codeToken c ≡ characterOf (latin c)
 unfolding codeToken
-as-character c ne n = rw (ne-eqb c 138 ne, n, codeToken)
+as-character c ne n s = rw (ne-eqb c 138 ne, n, s, codeToken)
 
 -- from A0h on the Latin table tells
 pub upper-token : (c : ℕ) → 160 ≤ c → codeToken c ≡ characterOf (latin c)
-upper-token c h = as-character c (λ e. omega arith) (control-below c (omega arith))
+upper-token c h = as-character c (λ e. omega arith) (control-below c (omega arith)) (switch-below c (omega arith))
 
 module _ (c : ℕ) where
   pub plain-token : isPlain c ≡ true → codeToken c ≡ Character c
   plain-token e =
       let r = plain-range c e in
       let p : latin c ≡ c = rw (by-range c (omega (arith, r .1)), le-ltb c 32 (r .0), ne-eqb c 36 (r .2), lt-ltb c 127 (omega (arith, r .1))) in
-      as-character c (λ d. omega (arith, r .1)) (control-below c (r .0)) ∙ (rw p (character-of c (λ z. omega (arith, r .0))))
+      as-character c (λ d. omega (arith, r .1)) (control-below c (r .0)) (switch-above c (omega (arith, r .1))) ∙ (rw p (character-of c (λ z. omega (arith, r .0))))
 
   pub control-token : isControl c ≡ true → codeToken c ≡ Control c
   unfolding codeToken isControl
@@ -80,13 +88,19 @@ module _ (c : ℕ) where
       let ne : c ≡ 138 → ⊥ = λ d. false-not-true (rw d at e) in
       rw (ne-eqb c 138 ne, e, codeToken)
 
+  pub switch-token : isSwitch c ≡ true → codeToken c ≡ Switch c
+  unfolding codeToken isSwitch
+  switch-token e =
+      let w = between 128 131 c e in
+      rw (ne-eqb c 138 (λ d. omega (arith, w .1)), control-below c (omega (arith, w .0)), e, codeToken)
+
   -- a low code that is none of these
-  pub no-token : c < 160 → isPlain c ≡ false → isControl c ≡ false → (c ≡ 36 → ⊥) → (c ≡ 138 → ⊥) → codeToken c ≡ Unlisted
+  pub no-token : c < 160 → isPlain c ≡ false → isControl c ≡ false → isSwitch c ≡ false → (c ≡ 36 → ⊥) → (c ≡ 138 → ⊥) → codeToken c ≡ Unlisted
   unfolding characterOf
-  no-token h p n d r =
+  no-token h p n s d r =
       let high : 32 ≤ c → 127 ≤ c = λ l. by-le c 126 (λ u. absurd (false-not-true (sym p ∙ in-range-plain c l u d))) (λ u. u) in
       let none : latin c ≡ 0 = by-range c (omega arith) ∙ by-test (ltb c 32) (λ t. rw t) (λ t. rw (t, ne-eqb c 36 d, le-ltb c 127 (high (ltb-false c 32 t)), lt-ltb c 160 h)) in
-      as-character c r n ∙ rw none
+      as-character c r n s ∙ rw none
 
 pub composed-alone : (a : ℕ) → composed a 0 ≡ 0
 unfolding composed

@@ -1,6 +1,6 @@
 // What a text's codes stand for: a code by itself, an accent with the code after it, and what stands at a position.
 ghost use mathlib.Core.Path.{_≡_};
-ghost use Rattle.meaning.specs.Codes.{isAccent, isControl, characterOf, codeToken, pairToken};
+ghost use Rattle.meaning.specs.Codes.{isAccent, isControl, isSwitch, characterOf, codeToken, pairToken};
 ghost use Prim.Native.Nat.{_<_};
 ghost use Rattle.charset.specs.Plain.{isPlain, plainEnd};
 ghost use Rattle.charset.specs.Reading.{readingAt};
@@ -27,6 +27,12 @@ fn is_control(c: u8) -> bool
     ensures { λ r. ⌜ r ≡ isControl c ⌝ }
 {
     (c < 8) | (c == 10) | (c == 11) | (c == 13) | (c == 28) | (c == 29)
+}
+
+fn is_switch(c: u8) -> bool
+    ensures { λ r. ⌜ r ≡ isSwitch c ⌝ }
+{
+    (128 <= c) & (c <= 131)
 }
 
 // A code that stands for the character of the same number.
@@ -56,6 +62,9 @@ fn low_token(c: u8) -> Token
     }
     if is_control(c) {
         return Token::Control(c);
+    }
+    if is_switch(c) {
+        return Token::Switch(c);
     }
     match c {
         36 => Token::Character(164),

@@ -1,4 +1,4 @@
--- How long the document of an accepted file can get: TNB has five digits, and rule 15 bounds what each block can add.
+-- How long the document of an accepted file can get: TNB has five digits, MNR has two, and rule 15 bounds what each block can add.
 -- Assumes nothing.
 use Prim.Native.Nat.{ℕ, zero, suc, _+_, _*_, _-_, _/_, _%_, _≤_, _<_}
 use native.Mathlib.Omega.{arith}
@@ -18,19 +18,20 @@ use Rattle.meaning.specs.Codes.{tokens, takesCell}
 use Rattle.meaning.specs.Rows.{isDouble, rows, linesOf, rowCount, rowLimit, isShort, rowsFit, textRule}
 use Rattle.meaning.specs.Cells.{Cell, points, newPen, penAfter, cellsOf, cellsFrom, rowStart, cellsOfRow, penAfterRow, cellRows, shown}
 use Rattle.meaning.specs.Spans.{lookOf, uniform, spansFrom, spans}
-use Rattle.meaning.specs.Gsi.{teletext, formatOf, blockCount, isDigit, valueFrom, tnb, fileRule}
+use Rattle.meaning.specs.Gsi.{formatOf, blockCount, isDigit, valueFrom, numberIn, tnb, mnr, isTeletext, screenOf, fileRule}
 use Rattle.meaning.specs.declared.Time.{Time}
 use Rattle.meaning.specs.declared.Header.{Header}
+use Rattle.meaning.specs.declared.Screen.{Screen}
 use Rattle.meaning.specs.declared.Format.{Format}
 use Rattle.meaning.specs.Walk.{Subtitle, Progress, outcome, subtitleOf}
 use Rattle.meaning.specs.Walk.Outcome.{accepted}
-use Rattle.meaning.specs.Document.{Piece, Alignment, Paragraph, Document, digits, withoutZeros, decimal, utf8, escaped, styleName, writeSpan, writePiece, writeTime, alignmentName, writeParagraph, channel, colourName, sizeName, writeStyle, isUsed, looksUsed, beforeRate, beforeStyles, beforeParagraphs, afterParagraphs, render, documentSpans}
+use Rattle.meaning.specs.Document.{Piece, Alignment, Paragraph, Document, digits, withoutZeros, decimal, utf8, escaped, styleName, writeSpan, writePiece, writeTime, alignmentName, writeParagraph, channel, colourName, sizeName, fontStyleName, decorationName, styleEnd, writeStyle, isUsed, looksUsed, beforeRate, beforeStyles, beforeParagraphs, afterParagraphs, render, documentSpans}
 use Rattle.meaning.specs.Document.Piece.{span, br}
 use Rattle.meaning.specs.Document.Alignment.{left, centre, right}
 use Rattle.meaning.specs.Conversion.{spanOf, rowSpans, laterRows, rowPieces, fillers, paragraphOf, documentOf}
 use Rattle.meaning.specs.Profile.{startsWith, spanElements}
 use Rattle.meaning.proofs.Logic.{by-test, by-cond, and-parts, between}
-use Rattle.meaning.proofs.ListLaws.{All, Any, any-blocks, all-of, all-copies, all-map, join-append, test-split}
+use Rattle.meaning.proofs.ListLaws.{All, Any, any-blocks, all-of, all-copies, all-map, join-append, test-nil, test-split}
 use Rattle.meaning.proofs.RefusalLaws.{unbroken}
 use Rattle.meaning.proofs.ListLaws.All.{nil, cons}
 use Rattle.laws.proofs.Trimming.{shown-bound}
@@ -57,23 +58,18 @@ value-bound (suc n) v b (c ∷ cs) l t h =
     let d = test-split isDigit c cs t in
     value-bound n (10 * v + (c - 48)) (10 * b) cs (omega arith) (d .1) (omega (arith, digit-bound c (d .0)))
 
--- rule 6
-module _ (mode : ℕ) (file : List ℕ) (e : isGood (fileRule mode file) ≡ true) where
-  five-digits : all isDigit (field 238 5 file) ≡ true
-  unfolding fileRule
-  five-digits =
-      let r₃ = unbroken _ _ _ _ (unbroken _ _ _ _ (unbroken _ _ _ _ e .1) .1) in
-      let r₆ = unbroken _ _ _ _ (unbroken _ _ _ _ (unbroken _ _ _ _ (r₃ .1) .1) .1) in
-      and-parts _ _ (r₆ .0) .0
+-- so the number in a field of n bytes is below ten to the n
+field-bound : (from n : ℕ) (file : List ℕ) → numberIn (field from n file) < tens n 1
+unfolding numberIn field valueFrom
+field-bound from n file =
+    by-test (all isDigit (field from n file))
+    (λ e. rw e (value-bound n 0 1 _ (simp length-take (omega arith)) e (omega arith)))
+    (λ e. rw e (value-bound n 0 1 [] (omega arith) (test-nil isDigit) (omega arith)))
 
-  pub tnb-bound : blockCount file ≤ 99999
-  unfolding tnb field
-  tnb-bound =
-      omega (
-        arith,
-        tnb-right mode file e,
-        value-bound 5 0 1 (field 238 5 file) (simp length-take (omega arith)) five-digits (omega arith),
-      )
+-- rule 6
+pub tnb-bound : (mode : ℕ) (file : List ℕ) → isGood (fileRule mode file) ≡ true → blockCount file ≤ 99999
+unfolding tnb
+tnb-bound mode file e = omega (arith, tnb-right mode file e .1, field-bound 238 5 file)
 
 -- what is joined, by a bound on each part
 join-bound : {A : Type 0} (f : A → List ℕ) (n : ℕ) {xs : List A} → All (λ (x : A). length (f x) ≤ n) xs → length (flatMap f xs) ≤ n * length xs
@@ -214,7 +210,7 @@ paragraph-bound p =
     simp length-append
     (omega (arith, decimal-bound (p .number), alignment-bound (p .alignment), time-length (p .begin), time-length (p .end)))
 
--- rule 15 on a screen that ends before line 24: at most 24 rows, each of them short, and at most 24 filler lines
+-- rule 15 on a screen that ends at 99 at the latest: at most 99 rows, each of them short, and at most 99 filler lines
 lines-least : (double : Bool) (n : ℕ) → n ≤ linesOf double (record { 0 = n }) .0
 unfolding linesOf
 lines-least true n = omega arith
@@ -229,8 +225,8 @@ rows-fit f place vp ts e =
     (r .0, leb-true _ (f .screen .end) (r .1))
 
 pieces-bound :
-    (f : Format) (first : Header) (ts : List Token) (place : ℕ) → isGood (textRule f place (first .vp) ts) ≡ true → f .screen .end ≤ 24
-    → size (paragraphOf f (subtitleOf (f .mode) first ts) .pieces) ≤ 59900
+    (f : Format) (first : Header) (ts : List Token) (place : ℕ) → isGood (textRule f place (first .vp) ts) ≡ true → f .screen .end ≤ 99
+    → size (paragraphOf f (subtitleOf (f .mode) first ts) .pieces) ≤ 239900
 unfolding subtitleOf rowCount fillers
 pieces-bound f first ts place e h =
     let s = subtitleOf (f .mode) first ts in
@@ -247,8 +243,8 @@ pieces-bound f first ts place e h =
     ))
 
 made-bound :
-    {Block : List ℕ → Type 0} {f : Format} → f .screen .end ≤ 24 → (s : Subtitle) → Made Block f s
-    → length (writeParagraph (paragraphOf f s)) ≤ 60000
+    {Block : List ℕ → Type 0} {f : Format} → f .screen .end ≤ 99 → (s : Subtitle) → Made Block f s
+    → length (writeParagraph (paragraphOf f s)) ≤ 240000
 made-bound {f = f} h s m =
     rw (m .made)
     (let t = subtitleOf (f .mode) (s .first) (tokens (m .text)) in
@@ -277,20 +273,36 @@ height-bound : (double : Bool) → length (sizeName double) ≤ 5
 unfolding sizeName bytes
 height-bound double = either-bound 5 double _ _ (omega arith) (omega arith)
 
-style-bound : (look : ℕ) → length (writeStyle look) ≤ 100
-unfolding writeStyle styleName joined bytes
+font-style-bound : (italics : Bool) → length (fontStyleName italics) ≤ 6
+unfolding fontStyleName bytes
+font-style-bound italics = either-bound 6 italics _ _ (omega arith) (omega arith)
+
+decoration-bound : (underline : Bool) → length (decorationName underline) ≤ 9
+unfolding decorationName bytes
+decoration-bound underline = either-bound 9 underline _ _ (omega arith) (omega arith)
+
+style-bound : (look : ℕ) → length (writeStyle look) ≤ 160
+unfolding writeStyle styleEnd styleName joined bytes
 style-bound look =
     let l = unpack look in
     simp length-append
-    (omega (arith, digits-length 3 look, colour-bound (l .colour), colour-bound (l .background), height-bound (l .double)))
+    (omega (
+      arith,
+      digits-length 3 look,
+      colour-bound (l .colour),
+      colour-bound (l .background),
+      height-bound (l .double),
+      font-style-bound (l .italics),
+      decoration-bound (l .underline),
+    ))
 
 -- a document: beside its paragraphs, fixed text and the style lines
-render-bound : (d : Document) → length (render d) ≤ 20000 + length (flatMap writeParagraph (d .paragraphs))
+render-bound : (d : Document) → length (render d) ≤ 100000 + length (flatMap writeParagraph (d .paragraphs))
 unfolding render joined beforeRate beforeStyles beforeParagraphs afterParagraphs bytes
 render-bound d =
     let looks = looksUsed (d .paragraphs) in
     simp length-append
-    (omega (arith, digits-length 2 (d .rate), join-bound writeStyle 100 (all-of style-bound looks), looks-bound (d .paragraphs)))
+    (omega (arith, digits-length 2 (d .rate), join-bound writeStyle 160 (all-of style-bound looks), looks-bound (d .paragraphs)))
 
 -- a tt:span element begins at a byte of its own
 elements-bound : (s : List ℕ) → spanElements s ≤ length s
@@ -306,27 +318,28 @@ module _ (mode : ℕ) (file : List ℕ) (p : Progress (List Subtitle)) (c : outc
   held : Held Any (formatOf mode file) (blockCount file) p
   held = rw c at (outcome-kept Any mode file (any-blocks _))
 
-  teletext-end : formatOf mode file .screen .end ≤ 24
-  unfolding formatOf teletext
-  teletext-end = omega arith
+  -- a teletext screen ends at 24, that of open subtitles at MNR
+  screen-end : formatOf mode file .screen .end ≤ 99
+  unfolding formatOf screenOf mnr
+  screen-end = by-cond (λ (s : Screen). s .end ≤ 99) (isTeletext file) _ _ (omega arith) (omega (arith, field-bound 253 2 file))
 
   pub subtitles-bound : length (p .gathered) ≤ 99999
   subtitles-bound = omega (arith, held .few, tnb-bound mode file (rule-kept mode file p c))
 
-  pub paragraphs-bound : length (flatMap writeParagraph (map (paragraphOf (formatOf mode file)) (p .gathered))) ≤ 6000000000
+  pub paragraphs-bound : length (flatMap writeParagraph (map (paragraphOf (formatOf mode file)) (p .gathered))) ≤ 24000000000
   paragraphs-bound =
       omega (
         arith,
         subtitles-bound,
-        join-bound writeParagraph 60000 (all-map (paragraphOf (formatOf mode file)) (made-bound teletext-end) (held .made)),
+        join-bound writeParagraph 240000 (all-map (paragraphOf (formatOf mode file)) (made-bound screen-end) (held .made)),
         length-map (p .gathered) (paragraphOf (formatOf mode file)),
       )
 
-  length-bound : length (render (documentOf (formatOf mode file) (p .gathered))) ≤ 6000020000
+  length-bound : length (render (documentOf (formatOf mode file) (p .gathered))) ≤ 24000100000
   unfolding documentOf
   length-bound = omega (arith, paragraphs-bound, render-bound (documentOf (formatOf mode file) (p .gathered)))
 
-  pub spans-bound : documentSpans (map (paragraphOf (formatOf mode file)) (p .gathered)) ≤ 6000020000
+  pub spans-bound : documentSpans (map (paragraphOf (formatOf mode file)) (p .gathered)) ≤ 24000100000
   unfolding documentOf
   spans-bound =
       let d = documentOf (formatOf mode file) (p .gathered) in

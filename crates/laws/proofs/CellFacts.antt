@@ -9,23 +9,56 @@ use lib.Dec.{eqb, ltb}
 use lib.ListN.{getD}
 use borrow.Author.Tests.{ltb-true}
 use Rattle.meaning.specs.declared.Token.{Token}
-use Rattle.meaning.specs.declared.Token.the-variants.{Character, Control, RowEnd, Unlisted}
+use Rattle.meaning.specs.declared.Token.the-variants.{Character, Control, Switch, RowEnd, Unlisted}
 use Rattle.meaning.specs.declared.Look.{Look}
 use Rattle.meaning.specs.declared.Pen.{Pen}
 use Rattle.meaning.specs.Lists.{all}
 use Rattle.meaning.specs.Tables.{latinTable, composedTable}
 use Rattle.meaning.specs.Characters.{latin, accent, letter, composed}
-use Rattle.meaning.specs.Codes.{isControl, characterOf, codeToken, pairToken, isAccent, tokens, takesCell}
+use Rattle.meaning.specs.Codes.{isControl, isSwitch, characterOf, codeToken, pairToken, isAccent, tokens, takesCell}
 use Rattle.meaning.specs.Rows.{breaksPaired, rows}
-use Rattle.meaning.specs.Cells.{Cell, points, glyphs, cellCharacter, controlHere, controlNext, lookHere, lookNext, newPen, cellOf, penAfter, cellsOf, cellsFrom, rowStart, penAfterRow, cellRows, isBlank}
+use Rattle.meaning.specs.Cells.{Cell, points, glyphs, cellCharacter, controlHere, controlNext, switched, lookHere, lookNext, cellOf, penAfter, cellsOf, cellsFrom, penEnd, rowStart, penAfterRow, cellRows, isBlank}
 use Rattle.meaning.specs.Spans.{foregroundOf, lookOf, uniform, spansFrom, spans}
 use Rattle.meaning.specs.Profile.{isScalar}
 use Rattle.meaning.proofs.Logic.{by-test}
-use Rattle.meaning.proofs.ListLaws.{All, all-append, all-left, all-right, all-at, all-so, all-tested, test-all}
+use Rattle.meaning.proofs.ListLaws.{All, all-append, all-left, all-right, all-at, all-tested, test-all, test-split}
 use Rattle.meaning.proofs.ListLaws.All.{nil, cons}
-use Rattle.meaning.proofs.LookLaws.{ThreeBits, white-bits, blend-bits}
+use Rattle.meaning.proofs.LookLaws.{ThreeBits, white-bits, start-bits, blend-bits}
 use Rattle.meaning.proofs.RowLaws.{rows-tested}
 use Rattle.meaning.proofs.Tokens.{tokens-pair, tokens-code}
+
+-- a property `Of` of every cell of a text whose tokens pass a test: `Within` holds of the looks in a row, for each token keeps it;
+-- `Before` is all that the start of a row needs of the look before it, and the looks in a row have it
+pub record Keeping (token : Token → Bool) (Before Within : Look → Type 0) (Of : Cell → Type 0) : Type 0 where
+  pub ends : token RowEnd ≡ true
+  pub cell : (t : Token) (p : Pen) → token t ≡ true → Within (p .look) → Of (cellOf t p)
+  pub next : (t : Token) (l : Look) → token t ≡ true → Within l → Within (lookNext t l)
+  pub start : (row : List Token) (p : Pen) → Before (p .look) → Within (rowStart row p .look)
+  pub left : (l : Look) → Within l → Before l
+
+module _ {token : Token → Bool} {Before Within : Look → Type 0} {Of : Cell → Type 0} (k : Keeping token Before Within Of) where
+  cell-keeps : (t : Token) (p : Pen) → token t ≡ true → Within (p .look) → All Of (cellsOf t p)
+  unfolding cellsOf
+  cell-keeps t p v h = by-test (takesCell t) (λ e. rw e (cons (k .cell t p v h) nil)) (λ e. rw e nil)
+
+  cells-keep : (p : Pen) (ts : List Token) → all token ts ≡ true → Within (p .look) → All Of (cellsFrom p ts) × Within (penEnd p ts .look)
+  unfolding cellsFrom penEnd penAfter
+  cells-keep p [] e h = (nil, h)
+  cells-keep p (t ∷ ts) e h =
+      let s = test-split token t ts e in
+      let later = cells-keep (penAfter t p) ts (s .1) (k .next t (p .look) (s .0) h) in
+      (all-append (cell-keeps t p (s .0) h) (later .0), later .1)
+
+  rows-keep : (p : Pen) (rs : List (List Token)) → all (all token) rs ≡ true → Before (p .look) → All (All Of) (cellRows p rs)
+  unfolding cellRows
+  rows-keep p [] e h = nil
+  rows-keep p (r ∷ rs) e h =
+      let s = test-split (all token) r rs e in
+      let row = cells-keep (rowStart r p) r (s .0) (k .start r p h) in
+      cons (row .0) (rows-keep (penAfterRow p r) rs (s .1) (k .left _ (row .1)))
+
+  pub text-keeps : (mode : ℕ) (p : Pen) (ts : List Token) → Before (p .look) → all token ts ≡ true → All (All Of) (cellRows p (rows mode ts))
+  text-keeps mode p ts h e = rows-keep p (rows mode ts) (rows-tested token (k .ends) (breaksPaired mode ts) ts ∙ e) h
 
 -- the tables hold code points that UTF-8 writes, by one computed test
 scalar-at : (xs : List ℕ) (k : ℕ) → all isScalar xs ≡ true → isScalar (getD xs k 0) ≡ true
@@ -48,6 +81,7 @@ composed-scalar (suc a) (suc l) = scalar-at composedTable (52 * a + l) (tables .
 abbrev isWritable : Token → Bool
 isWritable (Character p) = isScalar p
 isWritable (Control c) = true
+isWritable (Switch c) = true
 isWritable RowEnd = true
 isWritable Unlisted = true
 
@@ -67,7 +101,10 @@ code-writable c =
     (λ e.
     by-test (isControl c)
     (λ f. rw (e, f, codeToken))
-    (λ f. rw (e, f, codeToken) (character-writable (latin c) (latin-scalar c))))
+    (λ f.
+    by-test (isSwitch c)
+    (λ g. rw (e, f, g, codeToken))
+    (λ g. rw (e, f, g, codeToken) (character-writable (latin c) (latin-scalar c)))))
 
 pair-writable : (a c : ℕ) → Writable (pairToken a c)
 unfolding pairToken
@@ -81,12 +118,6 @@ tokens-writable (c ∷ d ∷ cs) =
     (λ e. rw (tokens-pair c d cs e) (cons (pair-writable c d) (tokens-writable cs)))
     (λ e. rw (tokens-code c d cs e) (cons (code-writable c) (tokens-writable (d ∷ cs))))
 
-rows-writable : (mode : ℕ) (text : List ℕ) → All (All Writable) (rows mode (tokens text))
-rows-writable mode text =
-    let ts = tokens text in
-    let tested = rows-tested isWritable refl (breaksPaired mode ts) ts ∙ test-all isWritable (tokens-writable text) in
-    all-so (all-tested isWritable) (all-tested (all isWritable) (rows mode ts) tested)
-
 here-bits : (t : Token) (l : Look) → ThreeBits l → ThreeBits (lookHere t l)
 unfolding lookHere controlHere
 here-bits (Character p) l h = h
@@ -98,6 +129,7 @@ here-bits (Control c) l h =
           (λ e. by-test (eqb c 29) (λ f. rw (e, f) (h .colour)) (λ f. rw (e, f) (h .background)));
       colour = h .colour;
     }
+here-bits (Switch c) l h = h
 here-bits RowEnd l h = h
 here-bits Unlisted l h = h
 
@@ -109,10 +141,11 @@ control-bits c l h =
       colour = by-test (ltb c 8) (λ e. rw e (ltb-true c 8 e)) (λ e. rw e (h .colour));
     }
 
-next-bits : (t : Token) (l : Look) → ThreeBits l → ThreeBits (lookNext t l)
-unfolding lookNext
+pub next-bits : (t : Token) (l : Look) → ThreeBits l → ThreeBits (lookNext t l)
+unfolding lookNext switched
 next-bits (Character p) l h = h
 next-bits (Control c) l h = control-bits c (controlHere c l) (unfold lookHere in here-bits (Control c) l h)
+next-bits (Switch c) l h = record { background = h .background; colour = h .colour }
 next-bits RowEnd l h = h
 next-bits Unlisted l h = h
 
@@ -124,6 +157,7 @@ cell-scalar : (t : Token) → Writable t → isScalar (cellCharacter t) ≡ true
 unfolding cellCharacter isScalar
 cell-scalar (Character p) h = h
 cell-scalar (Control c) h = refl
+cell-scalar (Switch c) h = refl
 cell-scalar RowEnd h = refl
 cell-scalar Unlisted h = refl
 
@@ -139,29 +173,21 @@ unfolding points flatMap
 points-scalar nil = nil
 points-scalar (cons s h) = cons (s .character) (points-scalar h)
 
-cell-sound : (t : Token) (p : Pen) → ThreeBits (p .look) → Writable t → All Sound (cellsOf t p)
-unfolding cellsOf cellOf
-cell-sound t p h v =
-    by-test (takesCell t) (λ e. rw e (cons (record { character = cell-scalar t v; look = here-bits t (p .look) h }) nil)) (λ e. rw e nil)
-
-cells-sound : (p : Pen) (ts : List Token) → ThreeBits (p .look) → All Writable ts → All Sound (cellsFrom p ts)
-unfolding cellsFrom
-cells-sound p [] h w = nil
-cells-sound p (t ∷ ts) h (cons v w) =
-    all-append (cell-sound t p h v) (cells-sound (penAfter t p) ts (unfold penAfter in next-bits t (p .look) h) w)
-
-start-bits : (row : List Token) (p : Pen) → ThreeBits (rowStart row p .look)
-unfolding rowStart newPen
-start-bits row p = white-bits (p .look .double)
-
-rows-of : (p : Pen) {rs : List (List Token)} → All (All Writable) rs → All (All Sound) (cellRows p rs)
-unfolding cellRows
-rows-of p nil = nil
-rows-of p (cons {x = r} w h) = cons (cells-sound (rowStart r p) r (start-bits r p) w) (rows-of (penAfterRow p r) h)
+-- a row may start from any look
+sound : Keeping isWritable (λ l. Unit {0}) ThreeBits Sound
+unfolding cellOf rowStart
+sound =
+    record {
+      ends = refl;
+      cell = λ t p v h. record { character = cell-scalar t v; look = here-bits t (p .look) h };
+      next = λ t l v h. next-bits t l h;
+      start = λ r p h. start-bits (p .look);
+      left = λ l h. tt;
+    }
 
 -- the cells of every row of a text
 pub rows-sound : (mode : ℕ) (p : Pen) (text : List ℕ) → All (All Sound) (cellRows p (rows mode (tokens text)))
-rows-sound mode p text = rows-of p (rows-writable mode text)
+rows-sound mode p text = text-keeps sound mode p (tokens text) tt (test-all isWritable (tokens-writable text))
 
 -- spans together are the cells
 from-flat : (cur cs : List Cell) → flatten (spansFrom cur cs) ≡ cur ++ cs

@@ -11,7 +11,7 @@ use lib.ListN.{length, length-append}
 use borrow.Author.Tests.{ne-eqb, eqb-false}
 use Rattle.meaning.specs.Lists.{joined, bytes}
 use Rattle.meaning.specs.declared.Time.{Time}
-use Rattle.meaning.specs.Document.{Span, Piece, Alignment, Paragraph, Document, digits, withoutZeros, decimal, utf8, escaped, styleName, writeSpan, writePiece, writeTime, alignmentName, writeParagraph, channel, colourName, sizeName, writeStyle, looksUsed, beforeRate, beforeStyles, beforeParagraphs, afterParagraphs, render, looksOf, documentLooks, documentSpans}
+use Rattle.meaning.specs.Document.{Span, Piece, Alignment, Paragraph, Document, digits, withoutZeros, decimal, utf8, escaped, styleName, writeSpan, writePiece, writeTime, alignmentName, writeParagraph, channel, colourName, sizeName, fontStyleName, decorationName, styleEnd, writeStyle, looksUsed, beforeRate, beforeStyles, beforeParagraphs, afterParagraphs, render, looksOf, documentLooks, documentSpans}
 use Rattle.meaning.specs.Document.Piece.{span, br}
 use Rattle.meaning.specs.Document.Alignment.{left, centre, right}
 use Rattle.meaning.specs.Profile.{startsWith, spanElements}
@@ -146,7 +146,7 @@ in-paragraphs (p ∷ ps) = num (sym (length-append (looksOf (p .pieces)) (docume
 
 in-channel : (bit : ℕ) → HasSpans 0 (channel bit)
 unfolding channel spanElements startsWith bytes
-in-channel bit = by-cond (HasSpans 0) (eqb bit 0) _ _ (fixed (bytes "00") (λ s. refl)) (fixed (bytes "ff") (λ s. refl))
+in-channel bit = by-cond (HasSpans 0) (eqb bit 0) _ _ (fixed _ (λ s. refl)) (fixed _ (λ s. refl))
 
 in-colour : (c : ℕ) → HasSpans 0 (colourName c)
 unfolding colourName joined spanElements startsWith bytes
@@ -154,14 +154,24 @@ in-colour c = fixed (bytes "#") (λ s. refl) & in-channel _ & in-channel _ & in-
 
 in-size : (double : Bool) → HasSpans 0 (sizeName double)
 unfolding sizeName spanElements startsWith bytes
-in-size double = by-cond (HasSpans 0) double _ _ (fixed (bytes "1c 2c") (λ s. refl)) (fixed (bytes "1c 1c") (λ s. refl))
+in-size double = by-cond (HasSpans 0) double _ _ (fixed _ (λ s. refl)) (fixed _ (λ s. refl))
+
+in-font-style : (italics : Bool) → HasSpans 0 (fontStyleName italics)
+unfolding fontStyleName spanElements startsWith bytes
+in-font-style italics = by-cond (HasSpans 0) italics _ _ (fixed _ (λ s. refl)) (fixed _ (λ s. refl))
+
+in-decoration : (underline : Bool) → HasSpans 0 (decorationName underline)
+unfolding decorationName spanElements startsWith bytes
+in-decoration underline = by-cond (HasSpans 0) underline _ _ (fixed _ (λ s. refl)) (fixed _ (λ s. refl))
 
 in-style : (look : ℕ) → HasSpans 0 (writeStyle look)
-unfolding writeStyle joined spanElements startsWith bytes
+unfolding writeStyle styleEnd joined spanElements startsWith bytes
 in-style look =
     fixed (bytes "<tt:style xml:id=\"") (λ s. refl) & in-style-name look & fixed (bytes "\" tts:color=\"") (λ s. refl)
     & in-colour _ & fixed (bytes "\" tts:backgroundColor=\"") (λ s. refl) & in-colour _
-    & fixed (bytes "\" tts:fontSize=\"") (λ s. refl) & in-size _ & fixed (bytes "\"/>\n") (λ s. refl)
+    & fixed (bytes "\" tts:fontSize=\"") (λ s. refl) & in-size _
+    & fixed (bytes "\" tts:fontStyle=\"") (λ s. refl) & in-font-style _
+    & fixed (bytes "\" tts:textDecoration=\"") (λ s. refl) & in-decoration _ & fixed (bytes "\"/>\n") (λ s. refl)
 
 in-fixed : HasSpans 0 beforeRate × HasSpans 0 beforeStyles × HasSpans 0 beforeParagraphs × HasSpans 0 afterParagraphs
 unfolding beforeRate beforeStyles beforeParagraphs afterParagraphs spanElements startsWith bytes

@@ -13,5 +13,6 @@ pub mod OwnRows
 pub mod OwnProfile
 pub mod Accepted
 pub mod Refused
+pub mod OpenFiles
 pub mod Demand3
 pub mod Bounds

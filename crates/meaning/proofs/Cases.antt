@@ -1,4 +1,4 @@
--- The P cases of document 01, "Both sides of each line": one table, one statement, computed.
+-- The P cases of document 01, "Both sides of each line", and cases of document 02: one table, one statement, computed.
 -- Assumes nothing.
 use Prim.Native.Nat.{ℕ}
 use Prim.Native.String.{String}
@@ -15,7 +15,7 @@ use Rattle.meaning.specs.Walk.Outcome.{refused, accepted}
 use Rattle.meaning.specs.Document.{Paragraph, writePiece, utf8}
 use Rattle.meaning.specs.Conversion.{paragraphOf, answer}
 use Rattle.meaning.proofs.Computed.{computed}
-use Rattle.meaning.proofs.Files.{gsi, block, subtitle, fileOf, files}
+use Rattle.meaning.proofs.Files.{gsi, gsiWith, block, subtitle, blocksOf, fileOf, oneOf, files}
 
 -- a break mode and a file, the answer's number and place, and what stands in each paragraph
 record Case : Type 0 where
@@ -65,8 +65,12 @@ two vp front back =
 full : List ℕ
 full = replicate 64 32 ++ (138 ∷ []) ++ replicate 46 32 ++ (194 ∷ [])
 
-cases : List Case
-cases =
+-- a file of one open subtitle on a screen of eleven rows
+film : ℕ → List ℕ → List ℕ
+film vp text = oneOf "000" "11" vp text
+
+paper : List Case
+paper =
     -- TNB 00002, one block
     refuses 1 (gsi 2 ++ block (subtitle 20 (65 ∷ []))) 6 0
     -- TCO equal to TCI; a second set with the same SN
@@ -97,6 +101,41 @@ cases =
     ∷ accepts 1 (one 23 (65 ∷ 143 ∷ 66 ∷ [])) ("<tt:span style=\"s007\">A</tt:span>" ∷ [])
     ∷ []
 
-right : T (all holds cases)
-unfolding computed files paragraphsIn sameTexts sameAnswer holds refuses accepts one two full cases
+-- document 02, request 1
+request1 : List Case
+request1 =
+    -- MNR and VP; rows that end at MNR and one past
+    accepts 1 (oneOf "000" "02" 0 (65 ∷ [])) ("<tt:span style=\"s007\">A</tt:span><tt:br/>" ∷ [])
+    ∷ accepts 1 (oneOf "000" "02" 1 (65 ∷ [])) ("<tt:span style=\"s007\">A</tt:span>" ∷ [])
+    ∷ refuses 1 (oneOf "000" "02" 2 (65 ∷ [])) 12 0
+    ∷ accepts 1 (oneOf "000" "02" 0 (65 ∷ 138 ∷ 66 ∷ [])) ("<tt:span style=\"s007\">A</tt:span><tt:br/><tt:span style=\"s007\">B</tt:span>" ∷ [])
+    ∷ refuses 1 (oneOf "000" "02" 1 (65 ∷ 138 ∷ 66 ∷ [])) 15 0
+    ∷ accepts 1 (oneOf "000" "99" 98 (65 ∷ [])) ("<tt:span style=\"s007\">A</tt:span>" ∷ [])
+    ∷ refuses 1 (oneOf "000" "00" 0 (65 ∷ [])) 6 0
+    ∷ refuses 1 (oneOf "000" "1 " 0 (65 ∷ [])) 6 0
+    -- CCT comes before MNR; MNR is not read in a teletext file, whose screen begins at line 1; DSC "3"
+    ∷ refuses 1 (oneOf "001" "00" 0 (65 ∷ [])) 5 0
+    ∷ accepts 1 (oneOf "100" "00" 23 (65 ∷ [])) ("<tt:span style=\"s007\">A</tt:span>" ∷ [])
+    ∷ refuses 1 (oneOf "100" "99" 0 (65 ∷ [])) 12 0
+    ∷ refuses 1 (oneOf "300" "11" 1 (65 ∷ [])) 4 0
+    -- italics and underline hold across rows until switched, and not in the next subtitle
+    ∷ accepts 1 (film 9 (128 ∷ 65 ∷ 138 ∷ 66 ∷ 129 ∷ 67 ∷ [])) ("<tt:span style=\"s263\">A</tt:span><tt:br/><tt:span style=\"s263\">B</tt:span><tt:span style=\"s007\">C</tt:span>" ∷ [])
+    ∷ accepts 2 (film 9 (65 ∷ 130 ∷ 138 ∷ 66 ∷ 131 ∷ 67 ∷ [])) ("<tt:span style=\"s007\">A</tt:span><tt:br/><tt:span style=\"s135\">B</tt:span><tt:span style=\"s007\">C</tt:span>" ∷ [])
+    ∷ accepts 1 (gsiWith "000" 2 "11" ++ blocksOf (subtitle 10 (128 ∷ 130 ∷ 65 ∷ []) ∷ record { sn = 2; ebn = 255; seconds = 3; frames = 4; vp = 10; cf = 0; text = 66 ∷ [] } ∷ [])) ("<tt:span style=\"s391\">A</tt:span>" ∷ "<tt:span style=\"s007\">B</tt:span>" ∷ [])
+    -- an underlined space is shown; a blank leaves italics open; blanks only are white and upright
+    ∷ accepts 1 (film 10 (130 ∷ 32 ∷ 65 ∷ 32 ∷ 131 ∷ 32 ∷ [])) ("<tt:span style=\"s135\"> A </tt:span>" ∷ [])
+    ∷ accepts 1 (film 10 (128 ∷ 65 ∷ 129 ∷ 32 ∷ 128 ∷ 66 ∷ [])) ("<tt:span style=\"s263\">A B</tt:span>" ∷ [])
+    ∷ accepts 1 (film 10 (130 ∷ 65 ∷ 131 ∷ 128 ∷ 32 ∷ 130 ∷ 32 ∷ [])) ("<tt:span style=\"s135\">A</tt:span><tt:span style=\"s007\"> </tt:span><tt:span style=\"s391\"> </tt:span>" ∷ [])
+    -- codes of the other kind, 84h, an accent before a switch
+    ∷ refuses 1 (film 10 (7 ∷ 65 ∷ [])) 13 0
+    ∷ refuses 1 (film 10 (132 ∷ 65 ∷ [])) 13 0
+    ∷ refuses 1 (film 10 (194 ∷ 128 ∷ [])) 13 0
+    ∷ refuses 1 (one 23 (128 ∷ 65 ∷ [])) 13 0
+    -- 64 cells and ten switches; 65 cells
+    ∷ accepts 1 (film 10 (replicate 10 128 ++ replicate 63 32 ++ (65 ∷ []))) ("<tt:span style=\"s263\">A</tt:span>" ∷ [])
+    ∷ refuses 1 (film 10 (replicate 10 128 ++ replicate 64 32 ++ (65 ∷ []))) 15 0
+    ∷ []
+
+right : T (all holds (paper ++ request1))
+unfolding computed files paragraphsIn sameTexts sameAnswer holds refuses accepts one two full film paper request1
 right = tt

@@ -1,14 +1,21 @@
 -- Files to compute with, made from what varies in them.
 -- Assumes nothing.
 use Prim.Native.Nat.{ℕ, _-_}
+use Prim.Native.String.{String}
 use mathlib.Core.List.{List, [], _∷_, _++_}
 use lib.ListN.{length, replicate}
 use Rattle.meaning.specs.Lists.{bytes}
 use Rattle.meaning.specs.Document.{digits}
 
--- a GSI block: 25 frames, DSC "1", CCT "00", TNB as given, blanks elsewhere
+-- a GSI block: 25 frames; DSC and CCT, TNB and MNR as given; blanks elsewhere
+unfoldable pub gsiWith : String → ℕ → String → List ℕ
+gsiWith standard tnb mnr =
+    replicate 3 32 ++ bytes "STL25.01" ++ bytes standard ++ replicate 224 32 ++ digits 5 tnb ++ replicate 10 32 ++ bytes mnr
+    ++ replicate 769 32
+
+-- a teletext file's: DSC "1", CCT "00"
 unfoldable pub gsi : ℕ → List ℕ
-gsi tnb = replicate 3 32 ++ bytes "STL25.01" ++ bytes "100" ++ replicate 224 32 ++ digits 5 tnb ++ replicate 781 32
+gsi tnb = gsiWith "100" tnb "  "
 
 -- what varies in a block here: SN below 256, EBN, the seconds and frames of TCO, VP, CF, and the text, filled up with 8Fh
 pub record Block : Type 0 where
@@ -38,7 +45,11 @@ blocksOf (b ∷ bs) = block b ++ blocksOf bs
 unfoldable pub fileOf : List Block → List ℕ
 fileOf bs = gsi (length bs) ++ blocksOf bs
 
+-- a file of one subtitle: DSC and CCT, MNR, VP and the text
+unfoldable pub oneOf : String → String → ℕ → List ℕ → List ℕ
+oneOf standard mnr vp text = gsiWith standard 1 mnr ++ block (subtitle vp text)
+
 -- one more name that opens them all
 unfoldable pub files : Unit {0}
-unfolding gsi block subtitle blocksOf fileOf
+unfolding gsiWith gsi block subtitle blocksOf fileOf oneOf
 files = tt

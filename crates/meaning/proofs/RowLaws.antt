@@ -4,7 +4,7 @@ use mathlib.Core.Path.{_≡_, refl, _∙_}
 use mathlib.Core.Bool.{Bool, true, false, _&&_, and-assoc}
 use mathlib.Core.List.{List, [], _∷_}
 use Rattle.meaning.specs.declared.Token.{Token}
-use Rattle.meaning.specs.declared.Token.the-variants.{Character, Control, RowEnd, Unlisted}
+use Rattle.meaning.specs.declared.Token.the-variants.{Character, Control, Switch, RowEnd, Unlisted}
 use Rattle.meaning.specs.Lists.{all, ontoFirst}
 use Rattle.meaning.specs.Codes.{isRowEnd}
 use Rattle.meaning.specs.Rows.{splitRows, pairedFrom, rowsOf}
@@ -15,6 +15,7 @@ is-end : (t : Token) → isRowEnd t ≡ true → t ≡ RowEnd
 unfolding isRowEnd
 is-end (Character p) e = absurd (false-not-true e)
 is-end (Control c) e = absurd (false-not-true e)
+is-end (Switch c) e = absurd (false-not-true e)
 is-end RowEnd e = refl
 is-end Unlisted e = absurd (false-not-true e)
 

@@ -1,4 +1,4 @@
--- A TTI block of 128 bytes: its header, its text, and the rules 8 to 12: document 01, "The file" and "What comes back".
+-- A TTI block of 128 bytes: its header, its text, and the rules 8 to 12: document 01, "The file" and "What comes back"; document 02, request 1.
 -- Assumes nothing.
 use Prim.Native.Nat.{ℕ, zero, suc, _+_, _*_}
 use mathlib.Core.Bool.{Bool, cond, not, _&&_}

@@ -1,15 +1,15 @@
--- A row's cells, and those shown: document 01, "Text to rows".
+-- A row's cells, and those shown: document 01, "Text to rows"; document 02, request 1.
 -- Assumes nothing.
 use Prim.Native.Nat.{ℕ}
-use mathlib.Core.Bool.{Bool, true, false, cond, _&&_}
+use mathlib.Core.Bool.{Bool, true, false, cond, not, _&&_, _||_}
 use mathlib.Core.List.{List, [], _∷_, _++_}
 use lib.Dec.{ltb, eqb}
 use Rattle.meaning.specs.declared.Token.{Token}
-use Rattle.meaning.specs.declared.Token.the-variants.{Character, Control, RowEnd, Unlisted}
+use Rattle.meaning.specs.declared.Token.the-variants.{Character, Control, Switch, RowEnd, Unlisted}
 use Rattle.meaning.specs.declared.Look.{Look}
 use Rattle.meaning.specs.declared.Pen.{Pen}
 use Rattle.meaning.specs.Codes.{takesCell}
-use Rattle.meaning.specs.Looks.{black, whiteOnBlack, withBackground, withColour, onBlack}
+use Rattle.meaning.specs.Looks.{black, white, whiteOnBlack, withBackground, withColour, onBlack}
 
 pub record Cell : Type 0 where
   pub character : ℕ
@@ -32,6 +32,7 @@ glyphs (p ∷ ps) = p ∷ glyphs ps
 unfoldable pub cellCharacter : Token → ℕ
 cellCharacter (Character p) = p
 cellCharacter (Control c) = blank
+cellCharacter (Switch c) = blank
 cellCharacter RowEnd = blank
 cellCharacter Unlisted = blank
 
@@ -43,16 +44,29 @@ controlHere c l = withBackground (cond (eqb c 28) black (cond (eqb c 29) (l .col
 unfoldable pub controlNext : ℕ → Look → Look
 controlNext c l = withColour (cond (ltb c 8) c (l .colour)) l
 
+-- 80h and 81h switch italics on and off, 82h and 83h underline, from the next cell on
+unfoldable pub switched : ℕ → Look → Look
+switched c l =
+    record {
+      italics = eqb c 128 || (l .italics && not (eqb c 129));
+      underline = eqb c 130 || (l .underline && not (eqb c 131));
+      double = l .double;
+      background = l .background;
+      colour = l .colour;
+    }
+
 -- the look of a token's cell, from the look before it, and the look after it
 unfoldable pub lookHere : Token → Look → Look
 lookHere (Character p) l = l
 lookHere (Control c) l = controlHere c l
+lookHere (Switch c) l = l
 lookHere RowEnd l = l
 lookHere Unlisted l = l
 
 unfoldable pub lookNext : Token → Look → Look
 lookNext (Character p) l = l
 lookNext (Control c) l = controlNext c (controlHere c l)
+lookNext (Switch c) l = switched c l
 lookNext RowEnd l = l
 lookNext Unlisted l = l
 
@@ -80,10 +94,10 @@ unfoldable pub penEnd : Pen → List Token → Pen
 penEnd p [] = p
 penEnd p (t ∷ ts) = penEnd (penAfter t p) ts
 
--- the pen at the start of a row, from the pen before it: each row starts white on black, in the subtitle's height, whatever
--- its tokens are
+-- the pen at the start of a row, from the pen before it: each row starts white on black, whatever its tokens are; the height is
+-- the subtitle's, italics and underline hold on
 unfoldable pub rowStart : List Token → Pen → Pen
-rowStart row p = newPen (p .look .double)
+rowStart row p = record { look = withColour white (withBackground black (p .look)) }
 
 -- a row's cells, and the pen after it
 abbrev pub cellsOfRow : Pen → List Token → List Cell
@@ -97,9 +111,9 @@ unfoldable pub cellRows : Pen → List (List Token) → List (List Cell)
 cellRows p [] = []
 cellRows p (r ∷ rs) = cellsOfRow p r ∷ cellRows (penAfterRow p r) rs
 
--- a blank is the cell of 20h or of a control
+-- a blank is the cell of 20h or of a control; an underlined space is none
 unfoldable pub isBlank : Cell → Bool
-isBlank c = eqb (c .character) blank
+isBlank c = eqb (c .character) blank && not (c .look .underline)
 
 unfoldable pub isBlankOnBlack : Cell → Bool
 isBlankOnBlack c = isBlank c && onBlack (c .look)

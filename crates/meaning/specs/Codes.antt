@@ -1,16 +1,20 @@
--- A text's codes and what they stand for: document 01, "Text to rows".
+-- A text's codes and what they stand for: document 01, "Text to rows"; document 02, request 1.
 -- Assumes nothing.
 use Prim.Native.Nat.{ℕ, zero, suc}
-use mathlib.Core.Bool.{Bool, true, false, not, _||_}
+use mathlib.Core.Bool.{Bool, true, false, not, _&&_, _||_}
 use mathlib.Core.List.{List, [], _∷_}
-use lib.Dec.{ltb, eqb}
+use lib.Dec.{ltb, leb, eqb}
 use Rattle.meaning.specs.declared.Token.{Token}
-use Rattle.meaning.specs.declared.Token.the-variants.{Character, Control, RowEnd, Unlisted}
+use Rattle.meaning.specs.declared.Token.the-variants.{Character, Control, Switch, RowEnd, Unlisted}
 use Rattle.meaning.specs.Characters.{latin, accent, letter, composed}
 
 -- 00h to 07h, 0Ah, 0Bh, 0Dh, 1Ch, 1Dh
 unfoldable pub isControl : ℕ → Bool
 isControl c = ltb c 8 || eqb c 10 || eqb c 11 || eqb c 13 || eqb c 28 || eqb c 29
+
+-- 80h to 83h: italics on and off, underline on and off
+unfoldable pub isSwitch : ℕ → Bool
+isSwitch c = leb 128 c && leb c 131
 
 -- a code point, where there is one
 unfoldable pub characterOf : ℕ → Token
@@ -22,7 +26,11 @@ unfoldable pub codeToken : ℕ → Token
 codeToken c =
     elim (eqb c 138) [
       | true ↦ RowEnd
-      | false ↦ elim (isControl c) [ true ↦ Control c | false ↦ characterOf (latin c) ]
+      | false ↦
+          elim (isControl c) [
+            | true ↦ Control c
+            | false ↦ elim (isSwitch c) [ true ↦ Switch c | false ↦ characterOf (latin c) ]
+          ]
     ]
 
 -- an accent and the code after it
@@ -39,28 +47,33 @@ tokens (c ∷ []) = codeToken c ∷ []
 tokens (c ∷ d ∷ cs) =
     elim (isAccent c) [ true ↦ pairToken c d ∷ tokens cs | false ↦ codeToken c ∷ tokens (d ∷ cs) ]
 
-unfoldable pub isListed : Token → Bool
-isListed (Character p) = true
-isListed (Control c) = true
-isListed RowEnd = true
-isListed Unlisted = false
+-- listed in teletext files, or in those of open subtitles: controls are for teletext, switches for open subtitles
+unfoldable pub isListed : Bool → Token → Bool
+isListed teletext (Character p) = true
+isListed teletext (Control c) = teletext
+isListed teletext (Switch c) = not teletext
+isListed teletext RowEnd = true
+isListed teletext Unlisted = false
 
 unfoldable pub isCharacter : Token → Bool
 isCharacter (Character p) = true
 isCharacter (Control c) = false
+isCharacter (Switch c) = false
 isCharacter RowEnd = false
 isCharacter Unlisted = false
 
 unfoldable pub isRowEnd : Token → Bool
 isRowEnd (Character p) = false
 isRowEnd (Control c) = false
+isRowEnd (Switch c) = false
 isRowEnd RowEnd = true
 isRowEnd Unlisted = false
 
--- a token of a row takes a cell: every one does, and no row holds a row end
+-- a token of a row takes a cell: every one does but a switch, and no row holds a row end
 unfoldable pub takesCell : Token → Bool
 takesCell (Character p) = true
 takesCell (Control c) = true
+takesCell (Switch c) = false
 takesCell RowEnd = true
 takesCell Unlisted = true
 
@@ -68,5 +81,6 @@ takesCell Unlisted = true
 unfoldable pub isDoubleHeight : Token → Bool
 isDoubleHeight (Character p) = false
 isDoubleHeight (Control c) = eqb c 13
+isDoubleHeight (Switch c) = false
 isDoubleHeight RowEnd = false
 isDoubleHeight Unlisted = false

@@ -1,4 +1,4 @@
--- The document of an accepted file, the answer, and the output buffer: document 01, "What comes back" and "The document, whole".
+-- The document of an accepted file, the answer, and the output buffer: document 01, "What comes back" and "The document, whole"; document 02, request 1.
 -- Assumes nothing.
 use Prim.Native.Nat.{ℕ, zero, suc, _+_, _-_}
 use mathlib.Core.Bool.{Bool, true, false}

@@ -1,4 +1,4 @@
--- A document of our profile, as what varies in it and as bytes: document 01, "The document, whole".
+-- A document of our profile, as what varies in it and as bytes: document 01, "The document, whole"; document 02, request 1.
 -- Assumes nothing.
 use Prim.Native.Nat.{ℕ, zero, suc, _+_, _/_, _%_}
 use mathlib.Core.Bool.{Bool, true, false, cond}
@@ -7,6 +7,7 @@ use lib.Dec.{ltb, eqb}
 use lib.ListN.{length}
 use Rattle.meaning.specs.Lists.{any, keep, joined, upFrom, bytes}
 use Rattle.meaning.specs.Looks.{lookCount, unpack}
+use Rattle.meaning.specs.declared.Look.{Look}
 use Rattle.meaning.specs.declared.Time.{Time}
 
 -- a tt:span: the number of its look, and its characters' code points
@@ -101,12 +102,24 @@ colourName c = joined (bytes "#" ∷ channel (c % 2) ∷ channel (c / 2 % 2) ∷
 unfoldable pub sizeName : Bool → List ℕ
 sizeName double = cond double (bytes "1c 2c") (bytes "1c 1c")
 
+unfoldable pub fontStyleName : Bool → List ℕ
+fontStyleName italics = cond italics (bytes "italic") (bytes "normal")
+
+unfoldable pub decorationName : Bool → List ℕ
+decorationName underline = cond underline (bytes "underline") (bytes "none")
+
+-- the end of a style's line, after the colours: size, italics and underline
+unfoldable pub styleEnd : Look → List ℕ
+styleEnd l =
+    joined
+    (bytes "\" tts:fontSize=\"" ∷ sizeName (l .double) ∷ bytes "\" tts:fontStyle=\"" ∷ fontStyleName (l .italics)
+    ∷ bytes "\" tts:textDecoration=\"" ∷ decorationName (l .underline) ∷ bytes "\"/>\n" ∷ [])
+
 unfoldable pub writeStyle : ℕ → List ℕ
 writeStyle look =
     joined
     (bytes "<tt:style xml:id=\"" ∷ styleName look ∷ bytes "\" tts:color=\"" ∷ colourName (unpack look .colour)
-    ∷ bytes "\" tts:backgroundColor=\"" ∷ colourName (unpack look .background)
-    ∷ bytes "\" tts:fontSize=\"" ∷ sizeName (unpack look .double) ∷ bytes "\"/>\n" ∷ [])
+    ∷ bytes "\" tts:backgroundColor=\"" ∷ colourName (unpack look .background) ∷ styleEnd (unpack look) ∷ [])
 
 -- the looks of the spans of a paragraph, and of a document, in order
 unfoldable pub looksOf : List Piece → List ℕ

@@ -1,7 +1,7 @@
--- The GSI block, and the rules 1 to 6 over a whole file: document 01, "The file" and "What comes back".
+-- The GSI block, and the rules 1 to 6 over a whole file: document 01, "The file" and "What comes back"; document 02, request 1.
 -- Assumes nothing.
 use Prim.Native.Nat.{ℕ, _+_, _*_, _-_, _/_, _%_}
-use mathlib.Core.Bool.{Bool, true, false, _&&_, _||_}
+use mathlib.Core.Bool.{Bool, true, false, cond, _&&_, _||_}
 use mathlib.Core.List.{List, [], _∷_}
 use lib.Dec.{leb, eqb}
 use lib.ListN.{length, getD}
@@ -23,14 +23,6 @@ rateOf file =
 unfoldable pub isRate : ℕ → Bool
 isRate n = eqb n 25 || eqb n 30
 
--- the lines 1 to 23 of a teletext page
-unfoldable pub teletext : Screen
-teletext = record { first = 1; end = 24 }
-
--- how a file is read in a break mode
-unfoldable pub formatOf : ℕ → List ℕ → Format
-formatOf mode file = record { mode = mode; rate = rateOf file; screen = teletext }
-
 -- the blocks present
 unfoldable pub blockCount : List ℕ → ℕ
 blockCount file = (length file - gsiSize) / blockSize
@@ -43,21 +35,45 @@ unfoldable pub valueFrom : ℕ → List ℕ → ℕ
 valueFrom v [] = v
 valueFrom v (c ∷ cs) = valueFrom (10 * v + (c - 48)) cs
 
+-- the number that decimal digits write, 0 where one of them is no digit
+unfoldable pub numberIn : List ℕ → ℕ
+numberIn cs = cond (all isDigit cs) (valueFrom 0 cs) 0
+
 -- TNB, 238 to 242: its bytes, and the number that they write
 abbrev pub tnbField : List ℕ → List ℕ
 tnbField file = field 238 5 file
 
 unfoldable pub tnb : List ℕ → ℕ
-tnb file = valueFrom 0 (tnbField file)
+tnb file = numberIn (tnbField file)
 
--- the first of the rules 1 to 6 that a break mode and a file break
+-- MNR, 253 to 254: the rows of the screen of open subtitles, 0 where one of its bytes is no digit
+unfoldable pub mnr : List ℕ → ℕ
+mnr file = numberIn (field 253 2 file)
+
+-- DSC, 11: "1" and "2" are for teletext, "0" is for open subtitles
+abbrev pub dsc : List ℕ → ℕ
+dsc file = getD file 11 0
+
+unfoldable pub isTeletext : List ℕ → Bool
+isTeletext file = eqb (dsc file) 49 || eqb (dsc file) 50
+
+-- the lines 1 to 23 of a teletext page, or the rows that MNR gives, from 0 on
+unfoldable pub screenOf : List ℕ → Screen
+screenOf file = cond (isTeletext file) (record { first = 1; end = 24 }) (record { first = 0; end = mnr file })
+
+-- how a file is read in a break mode
+unfoldable pub formatOf : ℕ → List ℕ → Format
+formatOf mode file = record { mode = mode; rate = rateOf file; screen = screenOf file; teletext = isTeletext file }
+
+-- the first of the rules 1 to 6 that a break mode and a file break; MNR is read in files of open subtitles only
 unfoldable pub fileRule : ℕ → List ℕ → Refusal
 fileRule mode file =
     firstBroken 0
     ((1, eqb mode 1 || eqb mode 2)
     ∷ (2, leb gsiSize (length file) && eqb ((length file - gsiSize) % blockSize) 0)
     ∷ (3, isRate (rateOf file))
-    ∷ (4, eqb (getD file 11 0) 49 || eqb (getD file 11 0) 50)
+    ∷ (4, isTeletext file || eqb (dsc file) 48)
     ∷ (5, same (field 12 2 file) (bytes "00"))
     ∷ (6, all isDigit (tnbField file) && eqb (tnb file) (blockCount file))
+    ∷ (6, isTeletext file || leb 1 (mnr file))
     ∷ [])

@@ -1,13 +1,14 @@
--- A look is a number of packed bits, most significant first: double height 1 bit, background 3, colour 3.
+-- A look is a number of packed bits, most significant first: italics 1 bit, underline 1, double height 1, background 3, colour 3:
+-- document 01, "Text to rows"; document 02, request 1.
 -- Assumes nothing.
 use Prim.Native.Nat.{ℕ, _+_, _*_, _/_, _%_}
-use mathlib.Core.Bool.{Bool, cond}
+use mathlib.Core.Bool.{Bool, false, cond}
 use lib.Dec.{eqb}
 use Rattle.meaning.specs.declared.Look.{Look}
 
--- a packed look is below it
+-- a packed look is below it, if its colours have three bits
 abbrev pub lookCount : ℕ
-lookCount = 128
+lookCount = 512
 
 abbrev pub black : ℕ
 black = 0
@@ -15,33 +16,44 @@ black = 0
 abbrev pub white : ℕ
 white = 7
 
+-- upright, with no underline
 unfoldable pub whiteOnBlack : Bool → Look
-whiteOnBlack double = record { double = double; background = black; colour = white }
+whiteOnBlack double = record { italics = false; underline = false; double = double; background = black; colour = white }
 
 -- a look with another background, and with another colour
 abbrev pub withBackground : ℕ → Look → Look
-withBackground n l = record { double = l .double; background = n; colour = l .colour }
+withBackground n l = record { italics = l .italics; underline = l .underline; double = l .double; background = n; colour = l .colour }
 
 abbrev pub withColour : ℕ → Look → Look
-withColour n l = record { double = l .double; background = l .background; colour = n }
+withColour n l = record { italics = l .italics; underline = l .underline; double = l .double; background = l .background; colour = n }
+
+abbrev pub bit : Bool → ℕ
+bit b = cond b 1 0
 
 unfoldable pub pack : Look → ℕ
-pack l = cond (l .double) 64 0 + 8 * l .background + l .colour
+pack l = 256 * bit (l .italics) + 128 * bit (l .underline) + 64 * bit (l .double) + 8 * l .background + l .colour
 
 unfoldable pub unpack : ℕ → Look
-unpack n = record { double = eqb (n / 64 % 2) 1; background = n / 8 % 8; colour = n % 8 }
+unpack n =
+    record {
+      italics = eqb (n / 256 % 2) 1;
+      underline = eqb (n / 128 % 2) 1;
+      double = eqb (n / 64 % 2) 1;
+      background = n / 8 % 8;
+      colour = n % 8;
+    }
 
--- what all cells of a span share, as one number: height and background
+-- what all cells of a span share, as one number: underline, height and background
 unfoldable pub shared : Look → ℕ
-shared l = cond (l .double) 1 0 + 2 * l .background
+shared l = bit (l .underline) + 2 * (bit (l .double) + 2 * l .background)
 
--- what a blank leaves open, as one number: colour
+-- what a blank leaves open, as one number: italics and colour
 unfoldable pub free : Look → ℕ
-free l = l .colour
+free l = bit (l .italics) + 2 * l .colour
 
--- the look that shares with one look and is in what is left open like another
+-- underline, height and background of one look, italics and colour of another
 unfoldable pub blend : Look → Look → Look
-blend l m = withColour (m .colour) l
+blend l m = record { italics = m .italics; underline = l .underline; double = l .double; background = l .background; colour = m .colour }
 
 unfoldable pub onBlack : Look → Bool
 onBlack l = eqb (l .background) black

@@ -1,4 +1,4 @@
--- Documents of the profile, their rows, and when one shows a file's rows: document 01, "The document, whole".
+-- Documents of the profile, their rows, and when one shows a file's rows: document 01, "The document, whole"; document 02, request 1.
 -- Assumes nothing.
 use Prim.Native.Nat.{ℕ, suc}
 use mathlib.Core.Path.{_≡_}
@@ -54,7 +54,8 @@ unfoldable pub rowCells : List Span → List Cell
 rowCells [] = []
 rowCells (s ∷ ss) = spanCells s ++ rowCells ss
 
--- equal in character, in what a span's cells share (background, height) and, blanks apart, in what a blank leaves open (colour)
+-- equal in character, in what a span's cells share (background, height, underline) and, blanks apart, in what a blank leaves open
+-- (colour, italics)
 pub record SameCell (c d : Cell) : Type 0 where
   pub character : c .character ≡ d .character
   pub shares : shared (c .look) ≡ shared (d .look)

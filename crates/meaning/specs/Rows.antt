@@ -1,4 +1,4 @@
--- A text's rows, and the rules 13 to 15: document 01, "Text to rows".
+-- A text's rows, and the rules 13 to 15: document 01, "Text to rows"; document 02, request 1.
 -- Assumes nothing.
 use Prim.Native.Nat.{ℕ, _+_, _*_}
 use mathlib.Core.Bool.{Bool, true, false, cond, not, _&&_, _||_}
@@ -74,7 +74,7 @@ heightsRight mode ts =
     && (isDouble ts || not (any (any isDoubleHeight) (tail (rows mode ts))))
     && (not (breaksPaired mode ts) || evenFrom false ts)
 
--- rows and teletext lines are separate counts: a double row covers two lines
+-- rows and lines of the screen are separate counts: a double row covers two lines
 unfoldable pub linesOf : Bool → Rows → Lines
 linesOf double n = record { 0 = cond double (2 * n .0) (n .0) }
 
@@ -97,4 +97,4 @@ rowsFit f vp ts =
 -- the first of the rules 13 to 15 that a text breaks, whose set begins at a place
 unfoldable pub textRule : Format → ℕ → ℕ → List Token → Refusal
 textRule f place vp ts =
-    firstBroken place ((13, all isListed ts) ∷ (14, heightsRight (f .mode) ts) ∷ (15, rowsFit f vp ts) ∷ [])
+    firstBroken place ((13, all (isListed (f .teletext)) ts) ∷ (14, heightsRight (f .mode) ts) ∷ (15, rowsFit f vp ts) ∷ [])

@@ -1,4 +1,4 @@
--- The spans of shown cells: document 01, "Text to rows".
+-- The spans of shown cells: document 01, "Text to rows"; document 02, request 1.
 -- Assumes nothing.
 use mathlib.Core.Bool.{Bool, true, false, _&&_, _||_}
 use mathlib.Core.List.{List, [], _∷_, _++_}
@@ -12,7 +12,7 @@ use Rattle.meaning.specs.Cells.{Cell, isBlank}
 unfoldable pub fits : Look → Cell → Bool
 fits l c = eqb (shared (c .look)) (shared l) && (isBlank c || eqb (free (c .look)) (free l))
 
--- the look of the first cell that is no blank; blanks only count as white
+-- the look of the first cell that is no blank; blanks only count as white and upright
 unfoldable pub foregroundOf : List Cell → Look
 foregroundOf [] = whiteOnBlack false
 foregroundOf (c ∷ cs) = elim (isBlank c) [ true ↦ foregroundOf cs | false ↦ c .look ]
@@ -22,7 +22,7 @@ unfoldable pub lookOf : List Cell → Look
 lookOf [] = whiteOnBlack false
 lookOf (c ∷ cs) = blend (c .look) (foregroundOf (c ∷ cs))
 
--- equal background and height and, blanks apart, one colour
+-- equal background, height and underline and, blanks apart, one colour, all italics or none
 unfoldable pub uniform : List Cell → Bool
 uniform cs = all (fits (lookOf cs)) cs
 

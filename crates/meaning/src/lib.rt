@@ -1,10 +1,12 @@
 // The types that the definitions in specs/ speak of, with the few functions that belong to a type.
 
 ghost use mathlib.Core.Path.{_≡_};
+ghost use Prim.Native.Nat.{_≤_};
+ghost use lib.Dec.{eqb};
 ghost use Rattle.meaning.specs.Refusals.{inTurn};
 ghost use Rattle.meaning.specs.Blocks.{isComment};
 ghost use Rattle.meaning.specs.Sets.{isUser};
-ghost use Rattle.meaning.specs.Looks.{pack, unpack, shared, free, blend, onBlack};
+ghost use Rattle.meaning.specs.Looks.{bit, pack, unpack, shared, free, blend, onBlack};
 ghost use Rattle.meaning.specs.Cells.{newPen};
 ghost use Rattle.meaning.specs.Rows.{isPaired, linesOf};
 
@@ -108,11 +110,13 @@ pub struct Screen {
     pub end: u8,
 }
 
-// How a file is read: the break mode, the frames of a second, and the screen.
+// How a file is read: the break mode, the frames of a second, the screen, and whether it is for teletext or has open
+// subtitles.
 pub struct Format {
     pub mode: u64,
     pub rate: u8,
     pub screen: Screen,
+    pub teletext: bool,
 }
 
 impl Format {
@@ -128,15 +132,25 @@ impl Format {
 pub enum Token {
     Character(u16),
     Control(u8),
+    Switch(u8),
     RowEnd,
     Unlisted,
 }
 
 // How a cell is shown. A colour has three bits, from the lowest red, green, blue.
 pub struct Look {
+    pub italics: bool,
+    pub underline: bool,
     pub double: bool,
     pub background: u8,
     pub colour: u8,
+}
+
+fn bit(on: bool) -> u16
+    ensures number { λ r. ⌜ r ≡ bit on ⌝ }
+    ensures small { λ r. ⌜ r ≤ 1 ⌝ }
+{
+    if on { 1 } else { 0 }
 }
 
 impl Look {
@@ -144,11 +158,13 @@ impl Look {
 
     pub const WHITE: u8 = 7;
 
-    // A packed look is below it.
-    pub const COUNT: usize = 128;
+    // A packed look is below it, if its colours have three bits.
+    pub const COUNT: usize = 512;
 
-    // In single height.
+    // In single height, upright, with no underline.
     pub const WHITE_ON_BLACK: Look = Look {
+        italics: false,
+        underline: false,
         double: false,
         background: Look::BLACK,
         colour: Look::WHITE,
@@ -157,32 +173,34 @@ impl Look {
     pub fn pack(self) -> u16
         ensures { λ r. ⌜ r ≡ pack self ⌝ }
     {
-        let low = 8 * (self.background as u16) + self.colour as u16;
-        if self.double { 64 + low } else { low }
+        let colours = 8 * (self.background as u16) + self.colour as u16;
+        256 * bit(self.italics) + 128 * bit(self.underline) + 64 * bit(self.double) + colours
     }
 
-    // The look that shares with one look and is in what a blank leaves open like another.
+    // Underline, height and background of this look, italics and colour of the other.
     pub fn blend(self, source: Look) -> Look
         ensures { λ r. ⌜ r ≡ blend self source ⌝ }
     {
         let mut look = self;
+        look.italics = source.italics;
         look.colour = source.colour;
         look
     }
 
-    // What the cells of a span share, as one number.
-    pub fn shared(self) -> u16
-        ensures { λ r. ⌜ r ≡ shared self ⌝ }
+    // Whether two looks are equal in what the cells of a span share.
+    pub fn shares(self, other: Look) -> bool
+        ensures { λ r. ⌜ r ≡ eqb (shared self) (shared other) ⌝ }
     {
-        let low = 2 * (self.background as u16);
-        if self.double { 1 + low } else { low }
+        (self.underline == other.underline)
+            & (self.double == other.double)
+            & (self.background == other.background)
     }
 
-    // What a blank leaves open, as one number.
-    pub fn free(self) -> u16
-        ensures { λ r. ⌜ r ≡ free self ⌝ }
+    // Whether two looks are equal in what a blank leaves open.
+    pub fn agrees(self, other: Look) -> bool
+        ensures { λ r. ⌜ r ≡ eqb (free self) (free other) ⌝ }
     {
-        self.colour as u16
+        (self.italics == other.italics) & (self.colour == other.colour)
     }
 
     pub fn on_black(self) -> bool
@@ -195,6 +213,8 @@ impl Look {
         ensures { λ r. ⌜ r ≡ unpack n ⌝ }
     {
         Look {
+            italics: n / 256 % 2 == 1,
+            underline: n / 128 % 2 == 1,
             double: n / 64 % 2 == 1,
             background: (n / 8 % 8) as u8,
             colour: (n % 8) as u8,
@@ -218,7 +238,7 @@ impl Pen {
     }
 }
 
-// Rows of a subtitle and lines of a teletext page are separate counts, never added.
+// Rows of a subtitle and lines of the screen are separate counts, never added.
 pub struct Rows(pub u32);
 
 pub struct Lines(pub u64);

@@ -25,8 +25,8 @@ use Rattle.rows.specs.Scanned.{Scanned, TextScanned}
 use Rattle.rows.proofs.Laws.{rows-first}
 
 -- a row end is listed, so a text is listed if its rows are
-rows-listed : (paired : Bool) (ts : List Token) → all (all isListed) (rowsOf paired ts) ≡ all isListed ts
-rows-listed = rows-tested isListed (unfold isListed in refl)
+rows-listed : (teletext paired : Bool) (ts : List Token) → all (all (isListed teletext)) (rowsOf paired ts) ≡ all (isListed teletext) ts
+rows-listed teletext = rows-tested (isListed teletext) (unfold isListed in refl)
 
 -- a 0Dh in a later row, where none stands in the first
 later-height :
@@ -49,7 +49,7 @@ lines-capped end vp h double n =
 
 module _ (f : Format) (place vp : ℕ) (low : f .screen .end < countLimit) (ts : List Token) where
   abbrev facts : TextFacts
-  facts = factsOfRows (rowsOf (breaksPaired (f .mode) ts) ts)
+  facts = factsOfRows (f .teletext) (rowsOf (breaksPaired (f .mode) ts) ts)
 
   right-14 :
       (facts .ordered && (isDouble ts || not (facts .height)) && (not (breaksPaired (f .mode) ts) || evenFrom false ts)) ≡ heightsRight (f .mode) ts
@@ -62,19 +62,19 @@ module _ (f : Format) (place vp : ℕ) (low : f .screen .end < countLimit) (ts :
 
   rule-right : ruleOf facts (isDouble ts) (not (breaksPaired (f .mode) ts) || evenFrom false ts) f place vp ≡ textRule f place vp ts
   unfolding factsOfRows ruleOf textRule
-  rule-right = rw (rows-listed (breaksPaired (f .mode) ts) ts, right-14, right-15)
+  rule-right = rw (rows-listed (f .teletext) (breaksPaired (f .mode) ts) ts, right-14, right-15)
 
-pub double-scanned : {s : List ℕ} {first : RowScan} → Scanned s 0 first → first .facts .height ≡ isDouble (tokens s)
+pub double-scanned : {teletext : Bool} {s : List ℕ} {first : RowScan} → Scanned teletext s 0 first → first .facts .height ≡ isDouble (tokens s)
 unfolding factsOfRow
-double-scanned {s} k = ap (λ (f : RowFacts). f .height) (k .facts)
+double-scanned k = ap (λ (f : RowFacts). f .height) (k .facts)
 
 -- what the two scans tell is the rule
 pub rule-scanned :
-    {s : List ℕ} (f : Format) (place vp : ℕ) {first : RowScan} {scan : TextScan} → f .screen .end < countLimit → Scanned s 0 first
-    → TextScanned s (eqb (f .mode) 2 && first .facts .height) scan
+    {s : List ℕ} (f : Format) (place vp : ℕ) {first : RowScan} {scan : TextScan} → f .screen .end < countLimit → Scanned (f .teletext) s 0 first
+    → TextScanned (f .teletext) s (eqb (f .mode) 2 && first .facts .height) scan
     → ruleOf (scan .facts) (first .facts .height) (scan .even) f place vp ≡ textRule f place vp (tokens s)
 unfolding breaksPaired
 rule-scanned {s} f place vp {first} {scan} h k t =
     let d = double-scanned k in
-    let u : TextScanned s (eqb (f .mode) 2 && isDouble (tokens s)) scan = rw d at t in
+    let u : TextScanned (f .teletext) s (eqb (f .mode) 2 && isDouble (tokens s)) scan = rw d at t in
     rw (d, u .even, u .facts) (rule-right f place vp h (tokens s))

@@ -46,34 +46,35 @@ height-end (u ∷ ts) t =
     (not-either (isDoubleHeight t) (any isDoubleHeight ts)))
     (λ e. rw (height-cons u (ts ++ (t ∷ [])), height-cons u ts, any-cons isCharacter u ts, e) (height-end ts t))
 
-pub with-token : (ts : List Token) (t : Token) → factsOfRow (ts ++ (t ∷ [])) ≡ withToken (factsOfRow ts) t
+pub with-token : (teletext : Bool) (ts : List Token) (t : Token) → factsOfRow teletext (ts ++ (t ∷ [])) ≡ withToken teletext (factsOfRow teletext ts) t
 unfolding factsOfRow withToken keep
-with-token ts t =
+with-token teletext ts t =
     let cells : min (length (keep takesCell (ts ++ (t ∷ [])))) countLimit ≡ cond (takesCell t) (min (min (length (keep takesCell ts)) countLimit + 1) countLimit) (min (length (keep takesCell ts)) countLimit) =
     rw (keep-append ts (t ∷ []), length-append) (by-test (takesCell t) (λ e. rw (e, keep) (omega arith)) (λ e. rw (e, keep) (omega arith))) in
-    rw (cells, all-end isListed ts t, any-end isDoubleHeight ts t, any-end isCharacter ts t, height-end ts t)
+    rw (cells, all-end (isListed teletext) ts t, any-end isDoubleHeight ts t, any-end isCharacter ts t, height-end ts t)
 
-more-characters : (f : RowFacts) (c n : ℕ) → withCharacters (withToken f (Character c)) n ≡ withCharacters f (suc n)
+more-characters : (teletext : Bool) (f : RowFacts) (c n : ℕ) → withCharacters (withToken teletext f (Character c)) n ≡ withCharacters f (suc n)
 unfolding withCharacters withToken isListed isCharacter takesCell isDoubleHeight
-more-characters f c n =
+more-characters teletext f c n =
     let cells : min (min (f .cells + 1) countLimit + n) countLimit ≡ min (f .cells + suc n) countLimit = omega arith in
     rw (cells, lt-ltb 0 (suc n) (omega arith), or-true (f .character))
 
-pub with-characters : (ts : List Token) (cs : List ℕ) → factsOfRow (ts ++ map Character cs) ≡ withCharacters (factsOfRow ts) (length cs)
-with-characters ts [] =
+pub with-characters : (teletext : Bool) (ts : List Token) (cs : List ℕ) → factsOfRow teletext (ts ++ map Character cs) ≡ withCharacters (factsOfRow teletext ts) (length cs)
+with-characters teletext ts [] =
     unfold factsOfRow withCharacters in
     let cells : min (min (length (keep takesCell ts)) countLimit + 0) countLimit ≡ min (length (keep takesCell ts)) countLimit = omega arith in
     rw (append-nil ts, cells, or-false (any isCharacter ts))
-with-characters ts (c ∷ cs) =
-    ap factsOfRow (sym (append-snoc ts (Character c) (map Character cs))) ∙ with-characters (ts ++ (Character c ∷ [])) cs
-    ∙ ap (λ (f : RowFacts). withCharacters f (length cs)) (with-token ts (Character c)) ∙ more-characters (factsOfRow ts) c (length cs)
+with-characters teletext ts (c ∷ cs) =
+    ap (factsOfRow teletext) (sym (append-snoc ts (Character c) (map Character cs))) ∙ with-characters teletext (ts ++ (Character c ∷ [])) cs
+    ∙ ap (λ (f : RowFacts). withCharacters f (length cs)) (with-token teletext ts (Character c)) ∙ more-characters teletext (factsOfRow teletext ts) c (length cs)
 
-pub with-row : (rs : List (List Token)) (r : List Token) → factsOfRows (rs ++ (r ∷ [])) ≡ withRow (factsOfRows rs) (factsOfRow r)
+pub with-row :
+    (teletext : Bool) (rs : List (List Token)) (r : List Token) → factsOfRows teletext (rs ++ (r ∷ [])) ≡ withRow (factsOfRows teletext rs) (factsOfRow teletext r)
 unfolding factsOfRows factsOfRow withRow isShort
-with-row rs r =
+with-row teletext rs r =
     let rows : min (length rs + 1) countLimit ≡ min (min (length rs) countLimit + 1) countLimit = omega arith in
     rw (
-      all-end (all isListed) rs r,
+      all-end (all (isListed teletext)) rs r,
       any-end (any isDoubleHeight) rs r,
       all-end heightFirst rs r,
       all-end isShort rs r,

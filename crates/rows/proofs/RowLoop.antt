@@ -3,15 +3,15 @@
 use Prim.Native.Nat.{ℕ, _-_, _≤_}
 use native.Mathlib.Omega.{arith}
 use mathlib.Core.Path.{_≡_, refl, sym, ap, _∙_}
-use mathlib.Core.Bool.{true, false, _||_}
+use mathlib.Core.Bool.{Bool, true, false, _||_}
 use mathlib.Core.List.{List, [], _∷_, map, _++_, append-nil, append-assoc}
 use lib.ListN.{length, take, drop, length-take, length-drop}
 use lib.Seq.{append-snoc}
 use Rattle.meaning.specs.declared.Token.{Token}
 use Rattle.meaning.specs.declared.Token.the-variants.{Character}
 use Rattle.meaning.specs.Codes.{isRowEnd, isDoubleHeight, tokens}
-use Rattle.meaning.specs.Lists.{any}
-use Rattle.meaning.specs.Rows.{isDouble, firstRow}
+use Rattle.meaning.specs.Lists.{all, any, keep}
+use Rattle.meaning.specs.Rows.{isDouble, firstRow, heightFirst}
 use Rattle.meaning.proofs.ListLaws.{any-cons}
 use Rattle.charset.specs.declared.Reading.{Reading}
 use Rattle.charset.specs.Reading.{afterRowAt}
@@ -25,49 +25,50 @@ use Rattle.rows.proofs.Gathered.{with-token, with-characters}
 use Rattle.rows.proofs.RowEnds.{row-end, row-more}
 
 -- the row from `start` is what was read of it, and its rest from position i on; f has the facts of what was read
-pub record RowLeft (s : List ℕ) (start : ℕ) (f : RowFacts) (i : ℕ) : Type 0 where
+pub record RowLeft (teletext : Bool) (s : List ℕ) (start : ℕ) (f : RowFacts) (i : ℕ) : Type 0 where
   pub past : List Token
-  pub facts : f ≡ factsOfRow past
+  pub facts : f ≡ factsOfRow teletext past
   pub row : past ++ firstRow (tokens (drop i s)) ≡ firstRow (tokens (drop start s))
   pub ended : isEnded (tokens (drop i s)) ≡ isEnded (tokens (drop start s))
   pub next : afterRowAt s i ≡ afterRowAt s start
 
-pub left-start : (s : List ℕ) (start : ℕ) {f : RowFacts} → f ≡ factsOfRow [] → RowLeft s start f start
-left-start s start e = record { past = []; facts = e; row = refl; ended = refl; next = refl }
+pub left-start : (teletext : Bool) (s : List ℕ) (start : ℕ) → RowLeft teletext s start (record { cells = 0; listed = true; height = false; character = false; ordered = true }) start
+unfolding factsOfRow all any keep heightFirst
+left-start teletext s start = record { past = []; facts = refl; row = refl; ended = refl; next = refl }
 
-module _ {s : List ℕ} {start i : ℕ} {f : RowFacts} (l : RowLeft s start f i) where
+module _ {teletext : Bool} {s : List ℕ} {start i : ℕ} {f : RowFacts} (l : RowLeft teletext s start f i) where
   -- a token of the row
-  pub left-more : {r : Reading} {g : RowFacts} → ReadOn s i r → isRowEnd (r .token) ≡ false → g ≡ withToken f (r .token) → RowLeft s start g (r .next)
+  pub left-more : {r : Reading} {g : RowFacts} → ReadOn s i r → isRowEnd (r .token) ≡ false → g ≡ withToken teletext f (r .token) → RowLeft teletext s start g (r .next)
   left-more {r} o e g =
       let ts = tokens (drop (r .next) s) in
       record {
         past = l .past ++ (r .token ∷ []);
-        facts = rw (g, l .facts) (sym (with-token (l .past) (r .token)));
+        facts = rw (g, l .facts) (sym (with-token teletext (l .past) (r .token)));
         row = append-snoc (l .past) (r .token) (firstRow ts) ∙ ap (λ (us : List Token). l .past ++ us) (sym (ap firstRow (o .first) ∙ first-more (r .token) ts e)) ∙ l .row;
         ended = sym (ap isEnded (o .first) ∙ ended-more (r .token) ts e) ∙ l .ended;
         next = sym (row-more o e) ∙ l .next;
       }
 
   -- a run of plain codes, up to e
-  pub left-run : {e : ℕ} {g : RowFacts} → RunOn s i e → g ≡ withCharacters f (e - i) → RowLeft s start g e
+  pub left-run : {e : ℕ} {g : RowFacts} → RunOn s i e → g ≡ withCharacters f (e - i) → RowLeft teletext s start g e
   left-run {e} o g =
       let cs = take (e - i) (drop i s) in
       let ts = tokens (drop e s) in
       let n : e - i ≡ length cs = omega (arith, length-take (e - i) (drop i s), length-drop i s, o .within) in
       record {
         past = l .past ++ map Character cs;
-        facts = g ∙ ap (withCharacters f) n ∙ rw (l .facts) (sym (with-characters (l .past) cs));
+        facts = g ∙ ap (withCharacters f) n ∙ rw (l .facts) (sym (with-characters teletext (l .past) cs));
         row = append-assoc (l .past) (map Character cs) (firstRow ts) ∙ ap (λ (us : List Token). l .past ++ us) (sym (ap firstRow (o .first) ∙ first-run ts cs)) ∙ l .row;
         ended = sym (ap isEnded (o .first) ∙ ended-run ts cs) ∙ l .ended;
         next = sym (o .row) ∙ l .next;
       }
 
   -- nothing is left
-  all-read : firstRow (tokens (drop i s)) ≡ [] → f ≡ factsOfRow (firstRow (tokens (drop start s)))
-  all-read e = l .facts ∙ ap factsOfRow (sym (append-nil (l .past)) ∙ rw e at (l .row))
+  all-read : firstRow (tokens (drop i s)) ≡ [] → f ≡ factsOfRow teletext (firstRow (tokens (drop start s)))
+  all-read e = l .facts ∙ ap (factsOfRow teletext) (sym (append-nil (l .past)) ∙ rw e at (l .row))
 
   -- the row end
-  pub left-end : {r : Reading} → ReadOn s i r → isRowEnd (r .token) ≡ true → Scanned s start (record { facts = f; ended = true; next = r .next })
+  pub left-end : {r : Reading} → ReadOn s i r → isRowEnd (r .token) ≡ true → Scanned teletext s start (record { facts = f; ended = true; next = r .next })
   left-end {r} o e =
       let ts = tokens (drop (r .next) s) in
       record {
@@ -77,7 +78,7 @@ module _ {s : List ℕ} {start i : ℕ} {f : RowFacts} (l : RowLeft s start f i)
       }
 
   -- the end of the text
-  pub left-over : length s ≤ i → Scanned s start (record { facts = f; ended = false; next = i })
+  pub left-over : length s ≤ i → Scanned teletext s start (record { facts = f; ended = false; next = i })
   left-over h =
       let t = tokens-end s i h in
       record {

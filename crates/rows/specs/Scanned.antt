@@ -20,8 +20,8 @@ unfoldable pub isEnded : List Token → Bool
 isEnded ts = any isRowEnd ts
 
 -- the facts of the row, whether a row end follows it, and the position after that
-pub record Scanned (s : List ℕ) (start : ℕ) (r : RowScan) : Type 0 where
-  pub facts : r .facts ≡ factsOfRow (firstRow (tokens (drop start s)))
+pub record Scanned (teletext : Bool) (s : List ℕ) (start : ℕ) (r : RowScan) : Type 0 where
+  pub facts : r .facts ≡ factsOfRow teletext (firstRow (tokens (drop start s)))
   pub ended : r .ended ≡ isEnded (tokens (drop start s))
   pub next : r .next ≡ afterRowAt s start
 
@@ -34,6 +34,6 @@ unfoldable pub nextRow : List ℕ → Bool → ℕ → NextRow
 nextRow s paired next = record { even = not paired || isRowEnd (tokenAt s next); start = nextRowAt s paired next }
 
 -- the facts of all rows, and whether the runs of row ends are even, where they are paired
-pub record TextScanned (s : List ℕ) (paired : Bool) (r : TextScan) : Type 0 where
-  pub facts : r .facts ≡ factsOfRows (rowsOf paired (tokens s))
+pub record TextScanned (teletext : Bool) (s : List ℕ) (paired : Bool) (r : TextScan) : Type 0 where
+  pub facts : r .facts ≡ factsOfRows teletext (rowsOf paired (tokens s))
   pub even : r .even ≡ (not paired || evenFrom false (tokens s))

@@ -19,23 +19,23 @@ use Rattle.rows.specs.declared.TextFacts.{TextFacts}
 abbrev pub countLimit : ℕ
 countLimit = 256
 
--- the facts of a row
-unfoldable pub factsOfRow : List Token → RowFacts
-factsOfRow ts =
+-- the facts of a row, in teletext or in open subtitles
+unfoldable pub factsOfRow : Bool → List Token → RowFacts
+factsOfRow teletext ts =
     record {
       cells = min (length (keep takesCell ts)) countLimit;
-      listed = all isListed ts;
+      listed = all (isListed teletext) ts;
       height = any isDoubleHeight ts;
       character = any isCharacter ts;
       ordered = heightFirst ts;
     }
 
 -- one token more
-unfoldable pub withToken : RowFacts → Token → RowFacts
-withToken f t =
+unfoldable pub withToken : Bool → RowFacts → Token → RowFacts
+withToken teletext f t =
     record {
       cells = cond (takesCell t) (min (f .cells + 1) countLimit) (f .cells);
-      listed = isListed t && f .listed;
+      listed = isListed teletext t && f .listed;
       height = isDoubleHeight t || f .height;
       character = isCharacter t || f .character;
       ordered = not (isDoubleHeight t && f .character) && f .ordered;
@@ -53,10 +53,10 @@ withCharacters f n =
     }
 
 -- the facts of all rows
-unfoldable pub factsOfRows : List (List Token) → TextFacts
-factsOfRows rs =
+unfoldable pub factsOfRows : Bool → List (List Token) → TextFacts
+factsOfRows teletext rs =
     record {
-      listed = all (all isListed) rs;
+      listed = all (all (isListed teletext)) rs;
       height = any (any isDoubleHeight) rs;
       ordered = all heightFirst rs;
       short = all isShort rs;

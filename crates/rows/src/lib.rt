@@ -2,10 +2,9 @@
 
 ghost use Prim.Native.Nat.{_+_, min};
 ghost use mathlib.Core.Path.{_≡_};
-ghost use mathlib.Core.List.{[]};
 ghost use Rattle.meaning.specs.Codes.{tokens, isRowEnd, isDoubleHeight};
 ghost use Rattle.meaning.specs.Rows.{isDouble, textRule};
-ghost use Rattle.rows.specs.Scanning.{countLimit, factsOfRow, withToken, withCharacters, factsOfRows, withRow, ruleOf};
+ghost use Rattle.rows.specs.Scanning.{countLimit, withToken, withCharacters, withRow, ruleOf};
 ghost use Rattle.rows.specs.Scanned.{Scanned, nextRowAt, nextRow, TextScanned};
 use meaning::Format;
 use meaning::ROW_LIMIT;
@@ -16,7 +15,8 @@ use meaning::Token;
 // What is known of a row: its cells, counted up to a limit; whether all its codes are listed; whether 0Dh stands in it, and a
 // character; and whether no 0Dh stands after a character.
 struct RowFacts {
-    cells: u32,
+    // A usize for speed: with a u32 the struct is kept in one register, whose bits are picked apart for each token.
+    cells: usize,
     listed: bool,
     height: bool,
     character: bool,
@@ -42,19 +42,19 @@ struct TextFacts {
 const DOUBLE_HEIGHT: u8 = 13;
 
 // Above every limit that a rule sets: no rule can tell counts beyond it apart.
-const COUNT_LIMIT: u32 = 256;
+const COUNT_LIMIT: usize = 256;
 
 // A count of cells or rows with some more, up to the limit.
-pub fn capped_sum(n: u32, more: usize) -> u32
+pub fn capped_sum(n: usize, more: usize) -> usize
     ensures { λ r. ⌜ r ≡ min (n + more) countLimit ⌝ }
 {
     if COUNT_LIMIT <= n {
         return COUNT_LIMIT;
     }
-    if (COUNT_LIMIT - n) as usize <= more {
+    if COUNT_LIMIT - n <= more {
         return COUNT_LIMIT;
     }
-    n + more as u32
+    n + more
 }
 
 pub fn is_row_end(t: Token) -> bool
@@ -63,6 +63,7 @@ pub fn is_row_end(t: Token) -> bool
     match t {
         Token::Character(_) => false,
         Token::Control(_) => false,
+        Token::Switch(_) => false,
         Token::RowEnd => true,
         Token::Unlisted => false,
     }
@@ -74,26 +75,24 @@ fn is_double_height(t: Token) -> bool
     match t {
         Token::Character(_) => false,
         Token::Control(c) => c == DOUBLE_HEIGHT,
+        Token::Switch(_) => false,
         Token::RowEnd => false,
         Token::Unlisted => false,
     }
 }
 
 impl RowFacts {
-    fn none() -> RowFacts
-        ensures { λ r. ⌜ r ≡ factsOfRow [] ⌝ }
-    {
-        RowFacts {
-            cells: 0,
-            listed: true,
-            height: false,
-            character: false,
-            ordered: true,
-        }
-    }
+    const NONE: RowFacts = RowFacts {
+        cells: 0,
+        listed: true,
+        height: false,
+        character: false,
+        ordered: true,
+    };
 
-    fn with_token(self, t: Token) -> RowFacts
-        ensures { λ r. ⌜ r ≡ withToken self t ⌝ }
+    // A switch takes no cell. Controls are listed in teletext, switches in open subtitles.
+    fn with_token(self, t: Token, teletext: bool) -> RowFacts
+        ensures { λ r. ⌜ r ≡ withToken teletext self t ⌝ }
     {
         let mut f = self;
         f.cells = capped_sum(self.cells, 1);
@@ -103,10 +102,16 @@ impl RowFacts {
                 f
             }
             Token::Control(c) => {
+                f.listed = teletext & self.listed;
                 if c == DOUBLE_HEIGHT {
                     f.height = true;
                     f.ordered = !self.character & self.ordered;
                 }
+                f
+            }
+            Token::Switch(_) => {
+                f.cells = self.cells;
+                f.listed = !teletext & self.listed;
                 f
             }
             Token::RowEnd => f,
@@ -129,17 +134,13 @@ impl RowFacts {
 }
 
 impl TextFacts {
-    fn none() -> TextFacts
-        ensures { λ r. ⌜ r ≡ factsOfRows [] ⌝ }
-    {
-        TextFacts {
-            listed: true,
-            height: false,
-            ordered: true,
-            short: true,
-            rows: 0,
-        }
-    }
+    const NONE: TextFacts = TextFacts {
+        listed: true,
+        height: false,
+        ordered: true,
+        short: true,
+        rows: 0,
+    };
 
     fn with_row(self, f: RowFacts) -> TextFacts
         ensures { λ r. ⌜ r ≡ withRow self f ⌝ }
@@ -148,17 +149,17 @@ impl TextFacts {
             listed: f.listed & self.listed,
             height: f.height | self.height,
             ordered: f.ordered & self.ordered,
-            short: (f.cells as usize <= ROW_LIMIT) & self.short,
-            rows: capped_sum(self.rows, 1),
+            short: (f.cells <= ROW_LIMIT) & self.short,
+            rows: capped_sum(self.rows as usize, 1) as u32,
         }
     }
 }
 
 // With each token the run of plain codes after it is taken at once.
-fn scan_row(text: &[u8], start: usize) -> RowScan
-    ensures { λ r. ⌜ Scanned (now (text .entry)) start r ⌝ }
+fn scan_row(text: &[u8], start: usize, teletext: bool) -> RowScan
+    ensures { λ r. ⌜ Scanned teletext (now (text .entry)) start r ⌝ }
 {
-    let mut facts = RowFacts::none();
+    let mut facts = RowFacts::NONE;
     let mut i = start;
     while i < text.len() {
         let read = charset::token_at(text, i);
@@ -172,7 +173,7 @@ fn scan_row(text: &[u8], start: usize) -> RowScan
             };
         }
         i = charset::plain_end(text, after);
-        facts = facts.with_token(t).with_characters(i - after);
+        facts = facts.with_token(t, teletext).with_characters(i - after);
     }
     RowScan {
         facts,
@@ -245,19 +246,19 @@ struct TextScan {
 }
 
 // The rows after the first, where row ends are paired or not.
-fn scan_after(text: &[u8], paired: bool, first: RowScan) -> TextScan
-    requires { ⌜ Scanned (now text) 0 first ⌝ }
-    ensures { λ r. ⌜ TextScanned (now (text .entry)) paired r ⌝ }
+fn scan_after(text: &[u8], teletext: bool, paired: bool, first: RowScan) -> TextScan
+    requires { ⌜ Scanned teletext (now text) 0 first ⌝ }
+    ensures { λ r. ⌜ TextScanned teletext (now (text .entry)) paired r ⌝ }
 {
     let f = first.facts;
-    let mut facts = TextFacts::none().with_row(f);
+    let mut facts = TextFacts::NONE.with_row(f);
     let mut even = true;
     let mut more = first.ended;
     let mut next = first.next;
     while more {
         let after = next_row_at(text, paired, next);
         even = even & after.even;
-        let row = scan_row(text, after.start);
+        let row = scan_row(text, after.start, teletext);
         let f = row.facts;
         facts = facts.with_row(f);
         more = row.ended;
@@ -281,11 +282,11 @@ fn rule_of(t: TextFacts, double: bool, even: bool, f: Format, place: u64, vp: u8
 pub fn text_rule(text: &[u8], f: Format, place: u64, vp: u8) -> Refusal
     ensures { λ r. ⌜ r ≡ textRule f place vp (tokens (now (text .entry))) ⌝ }
 {
-    let first = scan_row(text, 0);
+    let first = scan_row(text, 0, f.teletext);
     let facts = first.facts;
     let double = facts.height;
     let paired = f.is_paired(double);
-    let scan = scan_after(text, paired, first);
+    let scan = scan_after(text, f.teletext, paired, first);
     let all = scan.facts;
     rule_of(all, double, scan.even, f, place, vp)
 }

@@ -9,7 +9,7 @@ use Rattle.meaning.specs.Cells.{Cell, isBlank}
 use Rattle.cells.specs.Arrays.{packedCell}
 use Rattle.spans.specs.declared.joining.Foreground.{Foreground}
 
--- before the first cell: white on black
+-- before the first cell: white and upright, which is all that is asked of this look
 unfoldable pub noForeground : Foreground
 noForeground = record { blanks = true; look = pack (whiteOnBlack false) }
 

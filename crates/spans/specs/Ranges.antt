@@ -7,13 +7,13 @@ use Rattle.meaning.specs.Looks.{pack}
 use Rattle.meaning.specs.Lists.{takeWhile}
 use Rattle.meaning.specs.Cells.{Cell, isBlankOnBlack, shown}
 use Rattle.meaning.specs.Spans.{lookOf, spans}
-use Rattle.cells.specs.Arrays.{cellsAt}
+use Rattle.cells.specs.Arrays.{places, cellsAt}
 use Rattle.spans.specs.declared.Shown.{Shown}
 use Rattle.spans.specs.declared.SpanRead.{SpanRead}
 
 -- n, cut at the number of cells that both arrays have
 abbrev pub cut : List ℕ → List ℕ → ℕ → ℕ
-cut characters looks n = min n (min (length characters) (length looks))
+cut characters looks n = min n (places characters looks)
 
 -- the cells from an index up to another
 abbrev pub cellsTo : List ℕ → List ℕ → ℕ → ℕ → List Cell

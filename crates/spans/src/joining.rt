@@ -15,14 +15,14 @@ pub(crate) struct Foreground {
     pub look: u16,
 }
 
-// The look makes no difference.
+// An underlined space is no blank.
 pub(crate) fn is_blank(character: u16, look: u16) -> bool
     ensures { λ r. ⌜ r ≡ isBlank (packedCell character look) ⌝ }
 {
-    character == BLANK
+    (character == BLANK) & !Look::unpack(look).underline
 }
 
-// Blanks only count as white: what the look leaves open, and no more, is asked of it.
+// Blanks only count as white and upright; only italics and colour of this look are read.
 pub(crate) fn no_foreground() -> Foreground
     ensures { λ r. ⌜ r ≡ noForeground ⌝ }
 {
@@ -39,8 +39,7 @@ pub(crate) fn is_joining(first: u16, fore: Foreground, character: u16, look: u16
     let l = Look::unpack(look);
     let first_look = Look::unpack(first);
     let fore_look = Look::unpack(fore.look);
-    (l.shared() == first_look.shared())
-        & (is_blank(character, look) | (fore.blanks | (l.free() == fore_look.free())))
+    l.shares(first_look) & (is_blank(character, look) | (fore.blanks | l.agrees(fore_look)))
 }
 
 // The foreground with one more cell.

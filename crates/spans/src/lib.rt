@@ -7,6 +7,7 @@ ghost use Rattle.meaning.specs.Lists.{takeWhile};
 ghost use Rattle.meaning.specs.Cells.{isBlankOnBlack, trimBack};
 ghost use Rattle.cells.specs.Arrays.{packedCell, cellsAt};
 ghost use Rattle.spans.specs.Ranges.{cut, cellsTo, shownRange, spanAt};
+use cells::least;
 use meaning::Look;
 
 mod joining;
@@ -58,12 +59,6 @@ fn end_shown(characters: &[u16], looks: &[u16], start: usize, n: usize) -> usize
         end = last;
     }
     end
-}
-
-fn least(a: usize, b: usize) -> usize
-    ensures { λ r. ⌜ r ≡ min a b ⌝ }
-{
-    if a <= b { a } else { b }
 }
 
 // Both arrays have the cells below the result.

@@ -1,17 +1,17 @@
 -- Decimal digits one by one, and the number that they write.
 -- Assumes nothing.
 use Prim.Native.Nat.{ℕ, _+_, _*_, _-_, _<_, _≤_, _^_}
-use native.Mathlib.Nat.{pow-succ', pow-le-pow-right}
+use native.Mathlib.Nat.{pow-succ', pow-le-pow-right, lt-of-lt-of-le}
 use native.Mathlib.Numerals.{add-one}
 use native.Mathlib.Omega.{arith}
 use mathlib.Core.Bool.{true, false}
 use mathlib.Core.List.{List}
-use mathlib.Core.Path.{_≡_}
-use lib.ListN.{length, drop, getD, drop-of-length-le}
+use mathlib.Core.Path.{_≡_, sym}
+use lib.ListN.{length, drop, getD, drop-of-length-le, length-take}
 use lib.Seq.{drop-cons}
 use Rattle.meaning.proofs.Logic.{between}
-use Rattle.meaning.specs.Gsi.{isDigit, valueFrom}
-use Rattle.meaning.specs.Lists.{all}
+use Rattle.meaning.specs.Gsi.{isDigit, valueFrom, numberIn}
+use Rattle.meaning.specs.Lists.{all, field}
 
 -- digits from an index on
 module _ (s : List ℕ) (i : ℕ) where
@@ -39,5 +39,19 @@ digit-range c e = between 48 57 c e
 pub below-next : (v d i : ℕ) → v < 10 ^ i → d ≤ 9 → 10 * v + d < 10 ^ (i + 1)
 below-next v d i h k = rw add-one (omega (arith, pow-succ' 10 i))
 
-pub below-five : (v i : ℕ) → v < 10 ^ i → i ≤ 5 → v < 100000
-below-five v i h k = omega (arith, pow-le-pow-right {n = 10} (omega arith) k)
+pub below : (n v i : ℕ) → v < 10 ^ i → i ≤ n → v < 10 ^ n
+below n v i h k = lt-of-lt-of-le h (pow-le-pow-right {n = 10} (omega arith) k)
+
+-- what is said of a field: with a byte that is no digit, and with digits only
+module _ (s : List ℕ) where
+  pub no-number : all isDigit s ≡ false → (false ≡ all isDigit s) × ((0 ≡ numberIn s) × (0 < 10 ^ length s))
+  unfolding numberIn
+  no-number e = (sym e, (rw e, below (length s) 0 0 (omega arith) (omega arith)))
+
+  pub a-number : {v : ℕ} → all isDigit s ≡ true → valueFrom 0 s ≡ v → v < 10 ^ length s → (true ≡ all isDigit s) × ((v ≡ numberIn s) × (v < 10 ^ length s))
+  unfolding numberIn
+  a-number e f h = (sym e, (rw (e, f), h))
+
+pub field-length : (from n : ℕ) (s : List ℕ) → length (field from n s) ≤ n
+unfolding field
+field-length from n s = simp length-take (omega arith)

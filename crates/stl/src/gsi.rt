@@ -1,13 +1,13 @@
-// The GSI block: the frames of a second, the blocks present, and the rules 1 to 6 over a whole file.
+// The GSI block: the frames of a second, the screen, the blocks present, and the rules 1 to 6 over a whole file.
 
 ghost use mathlib.Core.Path.{_≡_};
 ghost use mathlib.Core.Bool.{_&&_, _||_};
-ghost use Prim.Native.Nat.{_-_, _%_, _≤_};
+ghost use Prim.Native.Nat.{_-_, _%_, _^_, _≤_, _<_};
 ghost use lib.Dec.{leb, eqb};
 ghost use lib.ListN.{length, getD};
 ghost use Rattle.meaning.specs.Lists.{all, same};
 ghost use Rattle.meaning.specs.Blocks.{gsiSize, blockSize};
-ghost use Rattle.meaning.specs.Gsi.{rateOf, formatOf, blockCount, isDigit, valueFrom, fileRule};
+ghost use Rattle.meaning.specs.Gsi.{rateOf, blockCount, isDigit, numberIn, tnbField, tnb, mnr, dsc, isTeletext, screenOf, formatOf, fileRule};
 use block::field;
 use meaning::BLOCK_SIZE;
 use meaning::Format;
@@ -42,18 +42,6 @@ fn rate(file: &[u8]) -> u8
         return 30;
     }
     0
-}
-
-// How a file is read in a break mode: teletext, lines 1 to 23.
-pub fn format(file: &[u8], mode: u64) -> Format
-    ensures { λ r. ⌜ r ≡ formatOf mode (now (file .entry)) ⌝ }
-{
-    let screen = Screen { first: 1, end: 24 };
-    Format {
-        mode,
-        rate: rate(file),
-        screen,
-    }
 }
 
 pub fn block_count(file: &[u8]) -> usize
@@ -93,32 +81,106 @@ fn is_digit(c: u8) -> bool
     (48 <= c) & (c <= 57)
 }
 
-// Whether bytes are decimal digits, all of them, and write the number n.
-fn writes(digits: &[u8], n: usize) -> bool
+// Bytes read as decimal digits: whether all of them are digits, and the number that they write, 0 if not.
+struct Decimal {
+    valid: bool,
+    value: usize,
+}
+
+fn read_decimal(digits: &[u8]) -> Decimal
     requires { ⌜ length (now digits) ≤ 5 ⌝ }
-    ensures { λ r. ⌜ r ≡ (all isDigit (now (digits .entry)) && eqb (valueFrom 0 (now (digits .entry))) n) ⌝ }
+    ensures valid { λ r. ⌜ r .valid ≡ all isDigit (now (digits .entry)) ⌝ }
+    ensures value { λ r. ⌜ r .value ≡ numberIn (now (digits .entry)) ⌝ }
+    ensures small { λ r. ⌜ r .value < 10 ^ length (now (digits .entry)) ⌝ }
 {
     let mut value = 0;
     let mut i = 0;
     while i < digits.len() {
         let c = digits[i];
         if !is_digit(c) {
-            return false;
+            return Decimal {
+                valid: false,
+                value: 0,
+            };
         }
         value = 10 * value + (c - 48) as usize;
         i += 1;
     }
-    value == n
+    Decimal { valid: true, value }
+}
+
+// TNB is five digits and gives the number of blocks present.
+fn counts_blocks(file: &[u8]) -> bool
+    ensures { λ r. ⌜ r ≡ (all isDigit (tnbField (now (file .entry))) && eqb (tnb (now (file .entry))) (blockCount (now (file .entry)))) ⌝ }
+{
+    let tnb = read_decimal(field(file, 238, 5));
+    tnb.valid & (tnb.value == block_count(file))
+}
+
+// MNR, 0 where one of its bytes is no digit.
+fn mnr(file: &[u8]) -> u8
+    ensures { λ r. ⌜ r ≡ mnr (now (file .entry)) ⌝ }
+{
+    let rows = read_decimal(field(file, 253, 2));
+    rows.value as u8
+}
+
+fn dsc(file: &[u8]) -> u8
+    ensures { λ r. ⌜ r ≡ dsc (now (file .entry)) ⌝ }
+{
+    byte(file, 11)
+}
+
+// DSC is that of a teletext file.
+fn is_teletext(file: &[u8]) -> bool
+    ensures { λ r. ⌜ r ≡ isTeletext (now (file .entry)) ⌝ }
+{
+    is_either(dsc(file) as u64, 49, 50)
+}
+
+// The lines 1 to 23 of a teletext page, or the rows that MNR gives, from 0 on.
+fn screen_of(file: &[u8]) -> Screen
+    ensures { λ r. ⌜ r ≡ screenOf (now (file .entry)) ⌝ }
+{
+    if is_teletext(file) {
+        return Screen { first: 1, end: 24 };
+    }
+    let end = mnr(file);
+    Screen { first: 0, end }
+}
+
+// How a file is read in a break mode.
+pub fn format(file: &[u8], mode: u64) -> Format
+    ensures { λ r. ⌜ r ≡ formatOf mode (now (file .entry)) ⌝ }
+{
+    let rate = rate(file);
+    let screen = screen_of(file);
+    let teletext = is_teletext(file);
+    Format {
+        mode,
+        rate,
+        screen,
+        teletext,
+    }
 }
 
 // The first of the rules 1 to 6 that a break mode and a file break.
 pub fn file_rule(file: &[u8], mode: u64) -> Refusal
     ensures { λ r. ⌜ r ≡ fileRule mode (now (file .entry)) ⌝ }
 {
-    let rule = Refusal::NONE.or(0, 1, is_either(mode, 1, 2));
-    let rule = rule.or(0, 2, is_whole(file.len()));
-    let rule = rule.or(0, 3, rate(file) != 0);
-    let rule = rule.or(0, 4, is_either(byte(file, 11) as u64, 49, 50));
-    let rule = rule.or(0, 5, same(field(file, 12, 2), b"00"));
-    rule.or(0, 6, writes(field(file, 238, 5), block_count(file)))
+    let listed = is_either(mode, 1, 2);
+    let whole = is_whole(file.len());
+    let rated = rate(file) != 0;
+    let teletext = is_teletext(file);
+    let dsc = dsc(file);
+    let latin = same(field(file, 12, 2), b"00");
+    let counted = counts_blocks(file);
+    let rows = mnr(file);
+    let rule = Refusal::NONE.or(0, 1, listed);
+    let rule = rule.or(0, 2, whole);
+    let rule = rule.or(0, 3, rated);
+    let rule = rule.or(0, 4, teletext | (dsc == 48));
+    let rule = rule.or(0, 5, latin);
+    let rule = rule.or(0, 6, counted);
+    rule.or(0, 6, teletext | (1 <= rows))
 }

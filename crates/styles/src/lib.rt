@@ -3,11 +3,14 @@
 use meaning::Look;
 ghost use mathlib.Core.Path.{_≡_};
 ghost use mathlib.Core.Bool.{true, cond};
-ghost use mathlib.Core.List.{[], flatMap};
+ghost use mathlib.Core.List.{flatMap};
+ghost use Prim.Native.Nat.{_+_, _≤_};
 ghost use lib.ListN.{set};
-ghost use Rattle.meaning.specs.Document.{styleName, channel, colourName, writeStyle};
+ghost use Rattle.meaning.specs.Lists.{any, upFrom};
+ghost use Rattle.meaning.specs.Looks.{lookCount};
+ghost use Rattle.meaning.specs.Document.{styleName, channel, colourName, styleEnd, writeStyle};
 ghost use Rattle.output.specs.Output.{Wrote};
-ghost use Rattle.styles.specs.Styles.{looksMarked};
+ghost use Rattle.styles.specs.Styles.{isOn, markedFrom, looksMarked, lookAndLater};
 
 // A mark for each look, set for the looks in use.
 pub struct Marks {
@@ -56,6 +59,19 @@ fn put_colour_name(out: &mut [u8], at: usize, colour: u8) -> usize
     put_channel(out, p, colour / 4 % 2)
 }
 
+// The end of a style's line: size, italics and underline.
+fn put_style_end(out: &mut [u8], at: usize, shown: Look) -> usize
+    ensures { λ r. ⌜ Wrote (now (out .entry)) at (styleEnd shown) (now (out .exit)) r ⌝ }
+{
+    let p = output::put(out, at, b"\" tts:fontSize=\"");
+    let p = put_either(out, p, shown.double, b"1c 2c", b"1c 1c");
+    let p = output::put(out, p, b"\" tts:fontStyle=\"");
+    let p = put_either(out, p, shown.italics, b"italic", b"normal");
+    let p = output::put(out, p, b"\" tts:textDecoration=\"");
+    let p = put_either(out, p, shown.underline, b"underline", b"none");
+    output::put(out, p, b"\"/>\n")
+}
+
 // One line of the styling.
 fn put_style(out: &mut [u8], at: usize, look: u16) -> usize
     ensures { λ r. ⌜ Wrote (now (out .entry)) at (writeStyle look) (now (out .exit)) r ⌝ }
@@ -67,18 +83,49 @@ fn put_style(out: &mut [u8], at: usize, look: u16) -> usize
     let p = put_colour_name(out, p, shown.colour);
     let p = output::put(out, p, b"\" tts:backgroundColor=\"");
     let p = put_colour_name(out, p, shown.background);
-    let p = output::put(out, p, b"\" tts:fontSize=\"");
-    let p = put_either(out, p, shown.double, b"1c 2c", b"1c 1c");
-    output::put(out, p, b"\"/>\n")
+    put_style_end(out, p, shown)
 }
 
-fn put_style_if(out: &mut [u8], at: usize, on: bool, look: u16) -> usize
-    ensures { λ r. ⌜ Wrote (now (out .entry)) at (cond on (writeStyle look) []) (now (out .exit)) r ⌝ }
+// Whether one of eight looks is marked; the eight marks are tested as one number in the compiled code.
+fn any_of_eight(on: &[bool; Look::COUNT], from: usize) -> bool
+    requires { ⌜ from + 8 ≤ lookCount ⌝ }
+    ensures { λ r. ⌜ r ≡ any (isOn (now (on .entry))) (upFrom 8 from) ⌝ }
 {
-    if on {
-        return put_style(out, at, look);
+    let mut found = false;
+    let mut k = 0;
+    while k < 8 {
+        found = on[from + k] | found;
+        k += 1;
     }
-    at
+    found
+}
+
+// Where to go on from a look: eight looks at a time are passed while none of them is marked.
+fn skip_eights(on: &[bool; Look::COUNT], from: usize) -> usize
+    ensures { λ r. ⌜ markedFrom (now (on .entry)) from ≡ markedFrom (now (on .entry)) r ⌝ }
+{
+    let mut k = from;
+    while k <= Look::COUNT - 8 {
+        if any_of_eight(on, k) {
+            return k;
+        }
+        k += 8;
+    }
+    k
+}
+
+// The first marked look from the given one on, past the last if there is none.
+fn next_marked(on: &[bool; Look::COUNT], from: usize) -> usize
+    ensures { λ r. ⌜ markedFrom (now (on .entry)) from ≡ lookAndLater (now (on .entry)) r ⌝ }
+{
+    let mut k = skip_eights(on, from);
+    while k < Look::COUNT {
+        if on[k] {
+            return k;
+        }
+        k += 1;
+    }
+    k
 }
 
 // The lines of the marked looks, each once, ascending.
@@ -86,10 +133,10 @@ pub fn put_styles(out: &mut [u8], at: usize, marks: Marks) -> usize
     ensures { λ r. ⌜ Wrote (now (out .entry)) at (flatMap writeStyle (looksMarked (marks .on))) (now (out .exit)) r ⌝ }
 {
     let mut p = at;
-    let mut look = 0;
+    let mut look = next_marked(&marks.on, 0);
     while look < Look::COUNT {
-        p = put_style_if(out, p, marks.on[look], look as u16);
-        look += 1;
+        p = put_style(out, p, look as u16);
+        look = next_marked(&marks.on, look + 1);
     }
     p
 }

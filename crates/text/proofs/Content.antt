@@ -17,6 +17,8 @@ use Rattle.meaning.specs.Refusals.{isGood}
 use Rattle.meaning.specs.Codes.{tokens, takesCell}
 use Rattle.meaning.specs.Rows.{isDouble, breaksPaired, rows, linesOf, rowCount, rowLimit, isShort, textRule, rowsOf}
 use Rattle.meaning.specs.declared.Pen.{Pen}
+use Rattle.meaning.specs.Looks.{whiteOnBlack, pack}
+use Rattle.meaning.proofs.LookLaws.{white-bits, unpack-pack}
 use Rattle.meaning.specs.Cells.{Cell, newPen, rowStart, cellsOfRow, penAfterRow, cellRows}
 use Rattle.meaning.specs.Document.{writePiece}
 use Rattle.meaning.specs.Document.Piece.{br}
@@ -27,6 +29,7 @@ use Rattle.output.specs.Output.{Wrote}
 use Rattle.rows.specs.Scanning.{countLimit}
 use Rattle.text.specs.declared.Tally.{Tally}
 use Rattle.text.specs.declared.RowsLaid.{RowsLaid}
+use Rattle.cells.specs.Arrays.{penOf}
 use Rattle.text.specs.Laid.{cutRow, contentOf, PiecesLaid, RowsDone}
 use Rattle.text.proofs.Laws.{then-breaks}
 
@@ -46,9 +49,14 @@ unfolding cellRows
 rows-length p [] = refl
 rows-length p (r ∷ rs) = ap suc (rows-length (penAfterRow p r) rs)
 
+-- the pen at the start, packed
+pub start-pen : (double : Bool) {pen : Pen} {n : ℕ} → pen ≡ newPen double → n ≡ pack (pen .look) → penOf n ≡ newPen double
+unfolding newPen
+start-pen double e k = rw (k, e) (λ i. record { look = unpack-pack (whiteOnBlack double) (white-bits double) i })
+
 pub content-laid :
     {text : List ℕ} (f : Format) (vp : ℕ) {double : Bool} {buf b1 b2 : List ℕ} {on on′ : List Bool} {t : Tally} {l : RowsLaid} {lines fill : Lines} {q : ℕ}
-    {pen : Pen} → f .screen .end < countLimit → double ≡ isDouble (tokens text) → pen ≡ newPen double → RowsDone text pen (eqb (f .mode) 2 && double) buf on t b1 on′ l
+    {pen : ℕ} → f .screen .end < countLimit → double ≡ isDouble (tokens text) → penOf pen ≡ newPen double → RowsDone text pen (eqb (f .mode) 2 && double) buf on t b1 on′ l
     → lines ≡ linesOf double (record { 0 = l .rows }) → fill ≡ fillers (f .screen .end) vp lines → Wrote b1 (l .tally .at) (flatMap writePiece (replicate (fill .0) br)) b2 q
     → PiecesLaid buf on t (contentOf f vp text) b2 on′ (record { at = q; spans = l .tally .spans })
 unfolding contentOf pieces rowCount breaksPaired

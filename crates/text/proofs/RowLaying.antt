@@ -3,7 +3,6 @@
 use Prim.Native.Nat.{ℕ, _-_, _≤_, _<_, min}
 use native.Mathlib.Omega.{arith}
 use mathlib.Core.Path.{_≡_, sym, ap, subst, _∙_}
-use Rattle.meaning.specs.declared.Pen.{Pen}
 use Rattle.meaning.specs.Rows.{rowLimit}
 use mathlib.Core.Bool.{Bool}
 use mathlib.Core.List.{List, [], _∷_, map}
@@ -15,9 +14,9 @@ use Rattle.meaning.specs.Document.Piece.{span}
 use Rattle.meaning.specs.Conversion.{spanOf, rowSpans}
 use Rattle.meaning.proofs.Logic.{by-le}
 use Rattle.cells.specs.declared.RowRead.{RowRead}
-use Rattle.cells.specs.Arrays.{cellsAt}
+use Rattle.cells.specs.Arrays.{penOf, cellsAt}
 use Rattle.cells.specs.Decoded.{rowAt, Decoded}
-use Rattle.cells.proofs.Laws.{decoded-cells, decoded-lengths}
+use Rattle.cells.proofs.Laws.{decoded-cells, decoded-lengths, decoded-pen}
 use Rattle.spans.specs.declared.Shown.{Shown}
 use Rattle.spans.specs.declared.SpanRead.{SpanRead}
 use Rattle.spans.specs.Ranges.{cut, cellsTo, shownRange, spanAt}
@@ -91,18 +90,18 @@ cut-row xs =
     (λ h. let m : min (length xs) rowLimit ≡ rowLimit = omega arith in rw m)
 
 pub row-done :
-    {text : List ℕ} {start : ℕ} {pen : Pen} {characters looks characters′ looks′ buf buf′ : List ℕ} {on on′ : List Bool} {t r : Tally} {d : RowRead}
+    {text : List ℕ} {start pen : ℕ} {characters looks characters′ looks′ buf buf′ : List ℕ} {on on′ : List Bool} {t r : Tally} {d : RowRead}
     → Decoded text start pen characters looks characters′ looks′ d → length characters ≡ rowLimit → length looks ≡ rowLimit
     → PiecesLaid buf on t (map span (rowSpans (cellsAt characters′ looks′ 0 (cut characters′ looks′ (d .cells))))) buf′ on′ r
     → RowDone text start pen buf on t buf′ on′ (record { tally = r; ended = d .ended; next = d .next; pen = d .pen })
 unfolding cutRow rowAt
 row-done {text} {start} {pen} {characters} {looks} {characters′} {looks′} {d = d} k h l p =
     let m : cut characters′ looks′ (d .cells) ≡ min (d .cells) rowLimit = omega (arith, decoded-lengths k) in
-    let c : cellsAt characters′ looks′ 0 (cut characters′ looks′ (d .cells)) ≡ take rowLimit (rowAt text start pen) =
-    rw m (decoded-cells k (min (d .cells) rowLimit) (omega arith) (omega arith) (omega arith) ∙ rw (k .count) (cut-row (rowAt text start pen))) in
+    let c : cellsAt characters′ looks′ 0 (cut characters′ looks′ (d .cells)) ≡ take rowLimit (rowAt text start (penOf pen)) =
+    rw m (decoded-cells k (min (d .cells) rowLimit) (omega arith) (omega arith) (omega arith) ∙ rw (k .count) (cut-row (rowAt text start (penOf pen)))) in
     record {
       laid = rw c at p;
       ended = k .ended;
       next = k .next;
-      after = k .after;
+      after = decoded-pen k;
     }

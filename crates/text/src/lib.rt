@@ -117,12 +117,12 @@ fn put_row(
     r
 }
 
-// One row laid, whether a row end follows it, the position after that, and the pen after the row.
+// One row laid, whether a row end follows it, the position after that, and the pen after the row, packed.
 struct RowLaid {
     tally: Tally,
     ended: bool,
     next: usize,
-    pen: Pen,
+    pen: u16,
 }
 
 fn lay_row(
@@ -131,7 +131,7 @@ fn lay_row(
     t: Tally,
     text: &[u8],
     start: usize,
-    before: Pen,
+    before: u16,
 ) -> RowLaid
     ensures { λ r. ⌜ RowDone (now (text .entry)) start before (now (out .entry)) (now (marks .entry)) t (now (out .exit)) (now (marks .exit)) r ⌝ }
 {
@@ -139,12 +139,11 @@ fn lay_row(
     let mut looks = [0u16; ROW_LIMIT];
     let row = cells::decode_row(text, start, before, &mut characters, &mut looks);
     let tally = put_row(out, marks, t, &characters, &looks, row.cells);
-    let pen = row.pen;
     RowLaid {
         tally,
         ended: row.ended,
         next: row.next,
-        pen,
+        pen: row.pen,
     }
 }
 
@@ -159,12 +158,12 @@ fn lay_rows(
     marks: &mut [bool],
     t: Tally,
     text: &[u8],
-    start: Pen,
+    before: u16,
     paired: bool,
 ) -> RowsLaid
-    ensures { λ r. ⌜ RowsDone (now (text .entry)) start paired (now (out .entry)) (now (marks .entry)) t (now (out .exit)) (now (marks .exit)) r ⌝ }
+    ensures { λ r. ⌜ RowsDone (now (text .entry)) before paired (now (out .entry)) (now (marks .entry)) t (now (out .exit)) (now (marks .exit)) r ⌝ }
 {
-    let first = lay_row(out, marks, t, text, 0, start);
+    let first = lay_row(out, marks, t, text, 0, before);
     let mut tally = first.tally;
     let mut pen = first.pen;
     let mut more = first.ended;
@@ -178,7 +177,7 @@ fn lay_rows(
         pen = row.pen;
         more = row.ended;
         next = row.next;
-        rows = rows::capped_sum(rows, 1);
+        rows = rows::capped_sum(rows as usize, 1) as u32;
     }
     RowsLaid { tally, rows }
 }
@@ -198,7 +197,9 @@ pub fn put_content(
     let screen = f.screen;
     let double = rows::is_double(text);
     let paired = f.is_paired(double);
-    let laid = lay_rows(out, marks, t, text, Pen::new(double), paired);
+    let pen = Pen::new(double);
+    let look = pen.look;
+    let laid = lay_rows(out, marks, t, text, look.pack(), paired);
     let lines = Rows(laid.rows).lines(double);
     let mut tally = laid.tally;
     let fillers = filler_lines(screen.end, vp, lines);

@@ -35,6 +35,13 @@ impl Converter {
         (self.convert)(black_box(file), black_box(&mut self.out))
     }
 
+    /// The converter, if it gives an answer that differs in the length at most.
+    fn if_it_gives(mut self, answer: [u64; 8], file: &[u8]) -> Option<Converter> {
+        let own = self.convert(file);
+        let alike = own[..2] == answer[..2] && own[3..] == answer[3..];
+        alike.then_some(self)
+    }
+
     /// The time of one conversion, taken over `repeats`.
     fn time(&mut self, file: &[u8], repeats: u32) -> Duration {
         let start = Instant::now();
@@ -62,13 +69,15 @@ pub struct Race {
 }
 
 impl Race {
-    /// Compares answers and documents, which also warms up.
+    /// Compares answers and documents, which also warms up. An earlier library may
+    /// write another document, but it is measured only where it takes the file.
     pub fn new(input: Input) -> Race {
         let room = room(&input.file);
         let new = |convert| Converter::new(convert, room);
-        let (proved, second, before) = (new(by_proved), new(by_second), BEFORE.map(new));
-        let mut race = Race { input, proved, second, before, repeats: 1, measurements: 1 };
-        race.compare();
+        let (proved, second) = (new(by_proved), new(by_second));
+        let mut race = Race { input, proved, second, before: None, repeats: 1, measurements: 1 };
+        let answer = race.compare();
+        race.before = BEFORE.map(new).and_then(|before| before.if_it_gives(answer, &race.input.file));
         let Race { input, proved, .. } = &mut race;
         let once = proved.time(&input.file, 1);
         race.repeats = times(MEASUREMENT, once);
@@ -76,13 +85,12 @@ impl Race {
         race
     }
 
-    fn compare(&mut self) {
-        let Race { input, proved, second, before, .. } = self;
+    fn compare(&mut self) -> [u64; 8] {
+        let Race { input, proved, second, .. } = self;
         let answer = proved.convert(&input.file);
-        for other in std::iter::once(second).chain(before) {
-            assert_eq!(answer, other.convert(&input.file), "{}: the answers differ", input.name);
-            assert!(proved.out == other.out, "{}: the documents differ", input.name);
-        }
+        assert_eq!(answer, second.convert(&input.file), "{}: the answers differ", input.name);
+        assert!(proved.out == second.out, "{}: the documents differ", input.name);
+        answer
     }
 
     /// One measurement of each; another one goes first in the next round.

@@ -1,7 +1,7 @@
 //! The files that are converted, made from a fixed seed.
 
-use crate::words::{colourful_row, plain_row};
-use second::assemble::{file, time, tti, Tti};
+use crate::words::{colourful_row, open_row, plain_row};
+use second::assemble::{file, open_file, time, tti, Tti};
 use second::dice::Dice;
 
 /// One file, accepted or refused in break mode 1.
@@ -22,6 +22,9 @@ pub const LARGEST: &str = "largest file";
 
 const SEED: u64 = 3264;
 
+/// MNR of the open film.
+const OPEN_ROWS: u8 = 24;
+
 pub fn inputs() -> Vec<Input> {
     let mut dice = Dice::new(SEED);
     let film = film(&mut dice, 1500);
@@ -29,6 +32,7 @@ pub fn inputs() -> Vec<Input> {
         Input { name: "small file", file: file(25, &film[..5]) },
         Input { name: "feature film", file: file(25, &film) },
         Input { name: "colour changes", file: file(25, &colourful(&mut dice, 1500)) },
+        Input { name: "open film", file: open_file(25, OPEN_ROWS, &open(&mut Dice::new(SEED), 1500)) },
         Input { name: "refused at its last block", file: file(25, &spoiled(film)) },
         Input { name: SHORTER, file: file(25, &long(&mut dice, 10_000)) },
         Input { name: LARGEST, file: file(25, &long(&mut dice, 99_999)) },
@@ -43,6 +47,11 @@ fn film(dice: &mut Dice, subtitles: usize) -> Vec<Tti> {
 /// The same with a colour code before every word.
 fn colourful(dice: &mut Dice, subtitles: usize) -> Vec<Tti> {
     (0..subtitles).map(|number| subtitle(number, &[colourful_row(dice), colourful_row(dice)])).collect()
+}
+
+/// Subtitles of two rows, of open subtitles.
+fn open(dice: &mut Dice, subtitles: usize) -> Vec<Tti> {
+    (0..subtitles).map(|number| subtitle(number, &[open_row(dice), open_row(dice)])).collect()
 }
 
 /// A code that is in no table, in the last block.
@@ -75,7 +84,7 @@ fn long(dice: &mut Dice, blocks: usize) -> Vec<Tti> {
     long
 }
 
-/// The subtitle of these rows, lines 20 to 23; one every 36 frames, so that
+/// The subtitle of these rows, from line 20 on; one every 36 frames, so that
 /// 60,000 have their place in a day.
 fn subtitle(number: usize, rows: &[Vec<u8>; 2]) -> Tti {
     let first = 36 * number;

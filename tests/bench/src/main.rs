@@ -67,15 +67,18 @@ fn print_speeds(races: &[Race], rounds: usize) {
             Some(before) => {
                 println!(" {:.1} | {:.2} |", speed(bytes, before.best), ratio(before.best, proved))
             }
+            None if BEFORE.is_some() => println!(" – | – |"),
             None => println!(),
         }
     }
     println!();
     println!("MB/s: millions of bytes of the STL file in a second. Ratio: above 1 the proved converter is");
     println!("faster. Best of {rounds} rounds, the converters in turn. Each has its own output buffer,");
-    println!("which is not cleared between conversions. All answers and documents were compared first.");
+    println!("which is not cleared between conversions. All answers and documents of these two were");
+    println!("compared first.");
     if BEFORE.is_some() {
-        println!("Now to before: above 1 the proved converter is faster than the earlier one.");
+        println!("Now to before: above 1 the proved converter is faster than the earlier one, which is");
+        println!("measured where it takes the file; its document may be another.");
     }
 }
 

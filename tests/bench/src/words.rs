@@ -53,6 +53,24 @@ pub fn plain_row(dice: &mut Dice) -> Vec<u8> {
     row
 }
 
+/// Words of open subtitles; now and then one or some of them in italics, and now
+/// and then underlined.
+pub fn open_row(dice: &mut Dice) -> Vec<u8> {
+    let mut row = Vec::new();
+    let width = dice.between(20, 30);
+    let mut cells = 0;
+    while cells < width {
+        if cells > 0 {
+            row.push(b' ');
+        }
+        if dice.chance(12) {
+            row.push(dice.pick(b"\x80\x80\x81\x82\x83"));
+        }
+        cells += 1 + word(dice, &mut row, 9);
+    }
+    row
+}
+
 /// A colour code before every word, and before some a background.
 pub fn colourful_row(dice: &mut Dice) -> Vec<u8> {
     let mut row = vec![0x0D];
@@ -107,6 +125,7 @@ mod tests {
         for _ in 0..20_000 {
             assert!(plain_row(&mut dice).len() <= 55);
             assert!(colourful_row(&mut dice).len() <= 55);
+            assert!(open_row(&mut dice).len() <= 55);
         }
     }
 }

@@ -13,6 +13,14 @@ pub fn gsi(rate: u8, blocks: usize) -> [u8; GSI_LENGTH] {
     gsi
 }
 
+/// The same for open subtitles, with a screen of so many rows.
+pub fn open_gsi(rate: u8, rows: u8, blocks: usize) -> [u8; GSI_LENGTH] {
+    let mut gsi = gsi(rate, blocks);
+    gsi[11] = b'0';
+    gsi[253..=254].copy_from_slice(&two_digits(rows));
+    gsi
+}
+
 /// The fields of a block.
 #[derive(Clone)]
 pub struct Tti {
@@ -64,7 +72,17 @@ impl Tti {
 
 /// The file of these blocks.
 pub fn file(rate: u8, blocks: &[Tti]) -> Vec<u8> {
-    let mut file = gsi(rate, blocks.len()).to_vec();
+    with_blocks(&gsi(rate, blocks.len()), blocks)
+}
+
+/// The file of these blocks, open subtitles on a screen of so many rows.
+pub fn open_file(rate: u8, rows: u8, blocks: &[Tti]) -> Vec<u8> {
+    with_blocks(&open_gsi(rate, rows, blocks.len()), blocks)
+}
+
+/// The GSI and the blocks.
+pub fn with_blocks(gsi: &[u8], blocks: &[Tti]) -> Vec<u8> {
+    let mut file = gsi.to_vec();
     blocks.iter().for_each(|block| file.extend(block.bytes()));
     file
 }
@@ -78,6 +96,11 @@ pub fn five_digits(number: usize) -> [u8; 5] {
         rest /= 10;
     }
     digits
+}
+
+/// The number as MNR has it.
+pub fn two_digits(number: u8) -> [u8; 2] {
+    [b'0' + number / 10 % 10, b'0' + number % 10]
 }
 
 /// The time of a frame, counted from 0 at midnight.

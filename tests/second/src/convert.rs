@@ -1,5 +1,6 @@
 //! The order of the tests, and the answer.
 
+use crate::display::Display;
 use crate::document::{document, span_count, Subtitle};
 use crate::file::{self, Block, Time};
 use crate::text::{self, BreakMode};
@@ -73,7 +74,7 @@ fn read(file: &[u8], mode: u64) -> Result<Reading, Refusal> {
     let mode = BreakMode::from_number(mode).ok_or(of_the_file(Reason::BreakMode))?;
     let (gsi, rest) = file::parts(file).ok_or(of_the_file(Reason::Size))?;
     let rate = file::frame_rate(gsi).ok_or(of_the_file(Reason::DiskFormat))?;
-    if !file::is_teletext(gsi) {
+    if !file::is_teletext(gsi) && !file::is_open(gsi) {
         return Err(of_the_file(Reason::DisplayStandard));
     }
     if !file::is_latin(gsi) {
@@ -83,7 +84,16 @@ fn read(file: &[u8], mode: u64) -> Result<Reading, Refusal> {
     if file::number_of_blocks(gsi) != Some(present) {
         return Err(of_the_file(Reason::BlockCount));
     }
-    read_blocks(rest, mode, rate)
+    // "with DSC "0" a bad MNR is 6, tested after TNB"
+    let display = file::display(gsi).ok_or(of_the_file(Reason::BlockCount))?;
+    read_blocks(rest, &Setting { mode, rate, display })
+}
+
+/// What the caller and the GSI say about all blocks.
+struct Setting {
+    mode: BreakMode,
+    rate: u8,
+    display: Display,
 }
 
 /// A set that is not yet closed.
@@ -101,8 +111,9 @@ struct Set<'a> {
 
 /// "blocks in file order, each tested for 7 and, if it opens a set, for 8 to
 /// 12 in turn; when a set closes, its whole text for 13, then 14, then 15"
-fn read_blocks(rest: &[u8], mode: BreakMode, rate: u8) -> Result<Reading, Refusal> {
-    let mut reading = Reading { rate, subtitles: Vec::new(), comments: 0, continuations: 0, users: 0 };
+fn read_blocks(rest: &[u8], setting: &Setting) -> Result<Reading, Refusal> {
+    let mut reading =
+        Reading { rate: setting.rate, subtitles: Vec::new(), comments: 0, continuations: 0, users: 0 };
     let mut number_before = None;
     let mut open: Option<Set> = None;
     for (place, block) in file::blocks(rest).enumerate() {
@@ -114,7 +125,7 @@ fn read_blocks(rest: &[u8], mode: BreakMode, rate: u8) -> Result<Reading, Refusa
         }
         let set = match open.take() {
             None => {
-                let set = open_set(block, place, number_before, rate)?;
+                let set = open_set(block, place, number_before, setting)?;
                 number_before = Some(block.number());
                 set
             }
@@ -124,7 +135,7 @@ fn read_blocks(rest: &[u8], mode: BreakMode, rate: u8) -> Result<Reading, Refusa
             }
         };
         if set.extension == file::LAST_OF_SET {
-            close_set(&set, mode, &mut reading)?;
+            close_set(&set, setting, &mut reading)?;
         } else {
             open = Some(set);
         }
@@ -138,11 +149,16 @@ fn read_blocks(rest: &[u8], mode: BreakMode, rate: u8) -> Result<Reading, Refusa
 }
 
 /// Opens a set with its first block.
-fn open_set(first: Block, place: usize, number_before: Option<u16>, rate: u8) -> Result<Set, Refusal> {
+fn open_set<'a>(
+    first: Block<'a>,
+    place: usize,
+    number_before: Option<u16>,
+    setting: &Setting,
+) -> Result<Set<'a>, Refusal> {
     if !may_open(first.extension()) {
         return Err(Refusal { reason: Reason::Extension, place });
     }
-    test_header(first, number_before, rate).map_err(|reason| Refusal { reason, place })?;
+    test_header(first, number_before, setting).map_err(|reason| Refusal { reason, place })?;
     Ok(Set { first, place, extension: first.extension(), text: text_of(first).to_vec() })
 }
 
@@ -180,7 +196,7 @@ fn may_follow(before: u8, extension: u8) -> bool {
 
 /// "if it opens a set, for 8 to 12 in turn"; "A comment set (CF 01h) is tested
 /// for 7, 8 and 9 only."
-fn test_header(first: Block, number_before: Option<u16>, rate: u8) -> Result<(), Reason> {
+fn test_header(first: Block, number_before: Option<u16>, setting: &Setting) -> Result<(), Reason> {
     if first.comment_flag() > 0x01 {
         return Err(Reason::CommentFlag);
     }
@@ -193,10 +209,10 @@ fn test_header(first: Block, number_before: Option<u16>, rate: u8) -> Result<(),
     if first.cumulative() != 0x00 {
         return Err(Reason::Cumulative);
     }
-    if !times_are_good(first.time_in(), first.time_out(), rate) {
+    if !times_are_good(first.time_in(), first.time_out(), setting.rate) {
         return Err(Reason::Time);
     }
-    if !position_is_good(first) {
+    if !position_is_good(first, setting.display) {
         return Err(Reason::Position);
     }
     Ok(())
@@ -212,20 +228,21 @@ fn times_are_good(time_in: Time, time_out: Time, rate: u8) -> bool {
     time_in.in_range(rate) && time_out.in_range(rate) && time_out > time_in
 }
 
-/// Not "VP not 1 to 23, or JC above 03h".
-fn position_is_good(block: Block) -> bool {
-    (1..=23).contains(&block.vertical_position()) && block.justification() <= 0x03
+/// Not "VP not 1 to 23, or JC above 03h"; in open subtitles "VP is 0 up to MNR
+/// less 1".
+fn position_is_good(block: Block, display: Display) -> bool {
+    display.has_line(block.vertical_position()) && block.justification() <= 0x03
 }
 
 /// "when a set closes, its whole text for 13, then 14, then 15", at the "set's
 /// first block".
-fn close_set(set: &Set, mode: BreakMode, reading: &mut Reading) -> Result<(), Refusal> {
+fn close_set(set: &Set, setting: &Setting, reading: &mut Reading) -> Result<(), Refusal> {
     let first = set.first;
     if is_comment(first) {
         reading.comments += 1;
         return Ok(());
     }
-    let text = text::read(&set.text, mode, first.vertical_position())
+    let text = text::read(&set.text, setting.display, setting.mode, first.vertical_position())
         .map_err(|reason| Refusal { reason, place: set.place })?;
     reading.subtitles.push(Subtitle {
         number: first.number(),

@@ -81,7 +81,8 @@ pub fn span_count(subtitles: &[Subtitle]) -> usize {
     subtitles.iter().flat_map(|subtitle| &subtitle.text.rows).map(Vec::len).sum()
 }
 
-/// "128 marks, all clear at the start, record the looks in use."
+/// "marks, all clear at the start, record the looks in use": "the marks grow to
+/// 512".
 fn looks_in_use(subtitles: &[Subtitle]) -> [bool; Look::COUNT] {
     let mut marks = [false; Look::COUNT];
     for span in subtitles.iter().flat_map(|subtitle| &subtitle.text.rows).flatten() {
@@ -101,6 +102,11 @@ fn styles(out: &mut String, marks: &[bool; Look::COUNT]) {
         out.push_str(colour(look.background()));
         out.push_str("\" tts:fontSize=\"");
         out.push_str(font_size(look.double()));
+        // "In every file each s-style line then ends with" these two.
+        out.push_str("\" tts:fontStyle=\"");
+        out.push_str(font_style(look.italics()));
+        out.push_str("\" tts:textDecoration=\"");
+        out.push_str(decoration(look.underline()));
         out.push_str("\"/>\n");
     }
 }
@@ -109,9 +115,8 @@ fn styles(out: &mut String, marks: &[bool; Look::COUNT]) {
 fn style_name(out: &mut String, look: Look) {
     let number = look.number();
     out.push('s');
-    digit(out, number / 100);
-    digit(out, number / 10 % 10);
-    digit(out, number % 10);
+    digit(out, (number / 100) as u8);
+    two_digits(out, (number % 100) as u8);
 }
 
 /// "Colour bits from the lowest are red, green, blue."
@@ -127,6 +132,24 @@ fn font_size(double: bool) -> &'static str {
         "1c 2c"
     } else {
         "1c 1c"
+    }
+}
+
+/// "tts:fontStyle (normal, italic)"
+fn font_style(italics: bool) -> &'static str {
+    if italics {
+        "italic"
+    } else {
+        "normal"
+    }
+}
+
+/// "tts:textDecoration (none, underline)"
+fn decoration(underline: bool) -> &'static str {
+    if underline {
+        "underline"
+    } else {
+        "none"
     }
 }
 

@@ -1,5 +1,7 @@
 //! Where the bytes of the file stand: the GSI and the TTI blocks.
 
+use crate::display::Display;
+
 /// "GSI, 1,024 bytes"
 pub const GSI_LENGTH: usize = 1024;
 
@@ -48,6 +50,11 @@ pub fn is_teletext(gsi: &[u8]) -> bool {
     matches!(gsi[11], b'1' | b'2')
 }
 
+/// Open subtitles: "files with DSC "0""
+pub fn is_open(gsi: &[u8]) -> bool {
+    gsi[11] == b'0'
+}
+
 /// "Latin table (CCT "00")"
 pub fn is_latin(gsi: &[u8]) -> bool {
     &gsi[12..=13] == b"00"
@@ -55,7 +62,28 @@ pub fn is_latin(gsi: &[u8]) -> bool {
 
 /// "TNB 238 to 242 (five ASCII digits)"
 pub fn number_of_blocks(gsi: &[u8]) -> Option<usize> {
-    let digits = &gsi[238..=242];
+    number(&gsi[238..=242])
+}
+
+/// The display of a file whose DSC is good. "MNR is read with DSC "0" only."
+pub fn display(gsi: &[u8]) -> Option<Display> {
+    if is_open(gsi) {
+        rows_of_screen(gsi).map(|rows| Display::Open { rows })
+    } else {
+        Some(Display::Teletext)
+    }
+}
+
+/// "MNR (GSI bytes 253 to 254, two ASCII digits, 01 to 99)"
+fn rows_of_screen(gsi: &[u8]) -> Option<u8> {
+    match number(&gsi[253..=254])? {
+        0 => None,
+        rows => Some(rows as u8),
+    }
+}
+
+/// A number in ASCII digits, none if another byte is among them.
+fn number(digits: &[u8]) -> Option<usize> {
     if !digits.iter().all(u8::is_ascii_digit) {
         return None;
     }

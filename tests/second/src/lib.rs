@@ -1,9 +1,11 @@
 //! An independent second converter from EBU STL subtitle files to EBU-TT
-//! documents, written from document 01 (the rules) and from Appendix B of
-//! document 004 (the Latin table) alone.
+//! documents, written from document 01 (the rules), from request 1 of document
+//! 02 (open subtitles) and from Appendix B of document 004 (the Latin table)
+//! alone.
 //!
 //! * [`characters`]: codes and accent pairs to characters
 //! * [`file`]: where the bytes of the file stand
+//! * [`display`]: teletext or open subtitles, and the screen of each
 //! * [`text`]: a set's text to rows of spans
 //! * [`document`]: the words of the document
 //! * [`convert`](mod@convert): the order of the tests and the answer
@@ -15,6 +17,7 @@ pub mod assemble;
 pub mod characters;
 pub mod convert;
 pub mod dice;
+pub mod display;
 pub mod document;
 pub mod file;
 pub mod make;
@@ -68,11 +71,12 @@ pub enum Reason {
     Size = 2,
     /// DFC
     DiskFormat = 3,
-    /// DSC
+    /// DSC: "4 for other DSC"
     DisplayStandard = 4,
     /// CCT
     CharacterTable = 5,
-    /// TNB not five digits, or not the number of blocks present
+    /// TNB not five digits, or not the number of blocks present; "with DSC "0"
+    /// a bad MNR is 6, tested after TNB"
     BlockCount = 6,
     /// EBN F0h to FDh, wrong EBN for its place, disagreement inside a set, or
     /// a set open at the end of the file
@@ -85,13 +89,13 @@ pub enum Reason {
     Cumulative = 10,
     /// a time out of range, or TCO not after TCI
     Time = 11,
-    /// VP not 1 to 23, or JC above 03h
+    /// VP not 1 to 23, or JC above 03h; with DSC "0" VP not below MNR
     Position = 12,
     /// text code or accent pair not listed
     Code = 13,
     /// height or break rule
     HeightOrBreak = 14,
-    /// row too long, or rows don't fit
+    /// row too long, or rows don't fit; "rows past MNR are 15"
     RowsDoNotFit = 15,
     /// document longer than the buffer
     Buffer = 16,

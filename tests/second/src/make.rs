@@ -8,16 +8,19 @@
 
 mod header;
 mod limits;
+mod open;
 mod ordinary;
 mod plan;
 mod sets;
 mod spoil;
 mod strange;
+mod switches;
 mod text;
 
 use crate::convert;
 use crate::dice::Dice;
 use limits::paper_case;
+use open::open_case;
 use ordinary::ordinary;
 use strange::{full, giant, raw_text};
 
@@ -35,8 +38,9 @@ pub fn sample(seed: u64) -> Sample {
     let mut plan = match dice.below(600) {
         0..=1 => giant(&mut dice),
         2..=5 => full(&mut dice),
-        6..=89 => paper_case(&mut dice),
-        90..=125 => raw_text(&mut dice),
+        6..=77 => paper_case(&mut dice),
+        78..=137 => open_case(&mut dice),
+        138..=185 => raw_text(&mut dice),
         _ => ordinary(&mut dice),
     };
     let file = plan.file(&mut dice);
@@ -66,9 +70,12 @@ fn room(dice: &mut Dice, file: &[u8], mode: u64) -> usize {
 mod tests {
     use super::header::frame;
     use super::ordinary::with_faults;
-    use super::text::bad_fragment;
+    use super::text::{bad_fragment, row_of};
     use super::*;
     use crate::assemble::time;
+    use crate::display::Display;
+    use crate::text::{self, BreakMode};
+    use crate::Reason;
 
     #[test]
     fn same_seed_same_sample() {
@@ -78,13 +85,31 @@ mod tests {
         assert_ne!(sample(1), sample(2));
     }
 
+    const DISPLAYS: [Display; 2] = [Display::Teletext, Display::Open { rows: 99 }];
+
     #[test]
     fn bad_fragments_are_refused() {
         let mut dice = Dice::new(1);
-        for _ in 0..5000 {
-            let fragment = bad_fragment(&mut dice);
-            let read = crate::text::read(&fragment, crate::text::BreakMode::One, 1);
-            assert_eq!(read, Err(crate::Reason::Code), "{fragment:02X?}");
+        for display in DISPLAYS {
+            for _ in 0..5000 {
+                let fragment = bad_fragment(&mut dice, display);
+                let read = text::read(&fragment, display, BreakMode::One, 1);
+                assert_eq!(read, Err(Reason::Code), "{fragment:02X?}");
+            }
+        }
+    }
+
+    #[test]
+    fn rows_have_so_many_cells() {
+        let mut dice = Dice::new(2);
+        for display in DISPLAYS {
+            for _ in 0..5000 {
+                let row = row_of(&mut dice, display, 64);
+                assert!(text::read(&row, display, BreakMode::Two, 1).is_ok(), "{row:02X?}");
+                let row = row_of(&mut dice, display, 65);
+                let read = text::read(&row, display, BreakMode::Two, 1);
+                assert_eq!(read, Err(Reason::RowsDoNotFit), "{row:02X?}");
+            }
         }
     }
 

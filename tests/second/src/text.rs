@@ -1,6 +1,7 @@
 //! A set's text to rows of spans.
 
 use crate::characters::{composed, is_accent, latin};
+use crate::display::Display;
 use crate::Reason;
 
 /// "8Ah ends a row"
@@ -43,20 +44,30 @@ impl BreakMode {
 }
 
 /// "A look is a number of packed bits, most significant first: double height
-/// 1 bit, background 3, colour 3."
+/// 1 bit, background 3, colour 3." "A look gains two bits in front, italics then
+/// underline".
 #[derive(PartialEq, Eq, Debug, Clone, Copy)]
-pub struct Look(u8);
+pub struct Look(u16);
 
 impl Look {
     /// The number of different looks.
-    pub const COUNT: usize = 128;
+    pub const COUNT: usize = 512;
 
-    pub fn pack(double: bool, background: u8, colour: u8) -> Look {
-        Look(u8::from(double) << 6 | background << 3 | colour)
+    pub fn pack(italics: bool, underline: bool, double: bool, background: u8, colour: u8) -> Look {
+        let flags = u16::from(italics) << 8 | u16::from(underline) << 7 | u16::from(double) << 6;
+        Look(flags | u16::from(background) << 3 | u16::from(colour))
     }
 
-    pub fn number(self) -> u8 {
+    pub fn number(self) -> u16 {
         self.0
+    }
+
+    pub fn italics(self) -> bool {
+        self.0 >> 8 & 1 == 1
+    }
+
+    pub fn underline(self) -> bool {
+        self.0 >> 7 & 1 == 1
     }
 
     pub fn double(self) -> bool {
@@ -64,16 +75,16 @@ impl Look {
     }
 
     pub fn background(self) -> u8 {
-        self.0 >> 3 & 7
+        (self.0 >> 3 & 7) as u8
     }
 
     pub fn colour(self) -> u8 {
-        self.0 & 7
+        (self.0 & 7) as u8
     }
 
     /// All looks, ascending.
     pub fn all() -> impl Iterator<Item = Look> {
-        (0..128).map(Look)
+        (0..Look::COUNT as u16).map(Look)
     }
 }
 
@@ -94,18 +105,22 @@ pub struct Rows {
 }
 
 /// "when a set closes, its whole text for 13, then 14, then 15"
-pub fn read(text: &[u8], mode: BreakMode, vertical_position: u8) -> Result<Rows, Reason> {
-    let codes = read_codes(text).ok_or(Reason::Code)?;
+pub fn read(text: &[u8], display: Display, mode: BreakMode, vertical_position: u8) -> Result<Rows, Reason> {
+    let codes = read_codes(text, display).ok_or(Reason::Code)?;
+    // In open subtitles "00h to 1Fh ... are not allowed", so there is no 0Dh:
+    // "height single, and either break mode reads as 1".
     let double = is_double(&codes);
     if !heights_are_good(&codes, double) || !breaks_are_good(&codes, double, mode) {
         return Err(Reason::HeightOrBreak);
     }
     let rows = split_rows(&codes, double, mode);
-    if rows.iter().any(|row| row.len() > MOST_CELLS) {
+    if rows.iter().any(|row| cell_count(row) > MOST_CELLS) {
         return Err(Reason::RowsDoNotFit);
     }
-    let filler = filler_lines(vertical_position, rows.len(), double).ok_or(Reason::RowsDoNotFit)?;
-    let rows = rows.iter().map(|row| spans(shown(&cells(row)), double)).collect();
+    let covered = lines_covered(rows.len(), double);
+    let filler = display.filler_lines(vertical_position, covered).ok_or(Reason::RowsDoNotFit)?;
+    let mut pen = Pen::default();
+    let rows = rows.iter().map(|row| spans(shown(&cells(row, &mut pen)), double)).collect();
     Ok(Rows { rows, filler })
 }
 
@@ -114,21 +129,30 @@ pub fn read(text: &[u8], mode: BreakMode, vertical_position: u8) -> Result<Rows,
 enum Code {
     /// A code below 20h: one blank cell.
     Control(u8),
+    /// 80h to 83h: no cell.
+    Switch(Switch),
     /// A code of 20h or above, or an accent with its letter: one cell.
     Character(char),
     /// 8Ah: no cell.
     RowEnd,
 }
 
+/// "Codes 80h and 81h switch italics on and off, 82h and 83h underline"
+#[derive(PartialEq, Eq, Debug, Clone, Copy)]
+enum Switch {
+    Italics(bool),
+    Underline(bool),
+}
+
 /// Refusal 13: "Everything not named here or below is refused with 13."
-fn read_codes(text: &[u8]) -> Option<Vec<Code>> {
+fn read_codes(text: &[u8], display: Display) -> Option<Vec<Code>> {
     let mut codes = Vec::with_capacity(text.len());
     let mut bytes = text.iter().copied();
     while let Some(byte) = bytes.next() {
         let code = if byte == ROW_END {
             Code::RowEnd
-        } else if is_allowed_control(byte) {
-            Code::Control(byte)
+        } else if let Some(code) = code_of_display(byte, display) {
+            code
         } else if is_accent(byte) {
             // C1h to CFh "stand before a letter".
             Code::Character(composed(byte, bytes.next()?)?)
@@ -138,6 +162,25 @@ fn read_codes(text: &[u8]) -> Option<Vec<Code>> {
         codes.push(code);
     }
     Some(codes)
+}
+
+/// The codes that one kind of file has and the other has not: the controls of
+/// teletext, and the switches of open subtitles.
+fn code_of_display(byte: u8, display: Display) -> Option<Code> {
+    match display {
+        Display::Teletext => is_allowed_control(byte).then_some(Code::Control(byte)),
+        Display::Open { .. } => switch(byte).map(Code::Switch),
+    }
+}
+
+fn switch(byte: u8) -> Option<Switch> {
+    match byte {
+        0x80 => Some(Switch::Italics(true)),
+        0x81 => Some(Switch::Italics(false)),
+        0x82 => Some(Switch::Underline(true)),
+        0x83 => Some(Switch::Underline(false)),
+        _ => None,
+    }
 }
 
 /// "Controls allowed: 00h to 07h, 0Ah and 0Bh (box), 0Dh, 1Ch, 1Dh."
@@ -204,10 +247,9 @@ fn split_rows(codes: &[Code], double: bool, mode: BreakMode) -> Vec<&[Code]> {
     rows_by_single_ends(codes).step_by(step).collect()
 }
 
-/// "Lines covered must end at line 23 at the latest, so filler lines = 24 - VP
-/// - lines covered, not negative, else 15."
-fn filler_lines(vertical_position: u8, rows: usize, double: bool) -> Option<usize> {
-    24usize.checked_sub(usize::from(vertical_position))?.checked_sub(lines_covered(rows, double))
+/// The cells of a row: switches "take no cell".
+fn cell_count(row: &[Code]) -> usize {
+    row.iter().filter(|code| !matches!(code, Code::Switch(_))).count()
 }
 
 /// "a double row covers two lines"
@@ -226,16 +268,46 @@ struct Cell {
     blank: bool,
     colour: u8,
     background: u8,
+    italics: bool,
+    underline: bool,
 }
 
 impl Cell {
     fn is_blank_on_black(&self) -> bool {
         self.blank && self.background == BLACK
     }
+
+    /// What all cells of a span have in common.
+    fn ground(&self) -> (u8, bool) {
+        (self.background, self.underline)
+    }
+
+    /// What the cells of a span have in common "blanks apart": "a blank leaves
+    /// italics and colour free".
+    fn ink(&self) -> Option<(u8, bool)> {
+        (!self.blank).then_some((self.colour, self.italics))
+    }
 }
 
-/// The cells of a row.
-fn cells(row: &[Code]) -> Vec<Cell> {
+/// What the switches have set. They "hold across rows until switched or the
+/// subtitle ends"; a subtitle starts plain.
+#[derive(Default)]
+struct Pen {
+    italics: bool,
+    underline: bool,
+}
+
+impl Pen {
+    fn set(&mut self, switch: Switch) {
+        match switch {
+            Switch::Italics(on) => self.italics = on,
+            Switch::Underline(on) => self.underline = on,
+        }
+    }
+}
+
+/// The cells of a row; the pen comes from the row before and goes to the next.
+fn cells(row: &[Code], pen: &mut Pen) -> Vec<Cell> {
     // "Each row starts white on black."
     let mut colour = WHITE;
     let mut background = BLACK;
@@ -245,13 +317,18 @@ fn cells(row: &[Code]) -> Vec<Cell> {
         match code {
             Code::Control(BLACK_BACKGROUND) => background = BLACK,
             Code::Control(NEW_BACKGROUND) => background = colour,
+            Code::Switch(switch) => {
+                pen.set(switch);
+                continue;
+            }
             _ => {}
         }
         let character = character_of(code);
+        let Pen { italics, underline } = *pen;
         // "A blank is the cell of 20h or of a control; U+00A0 is none." Only
-        // 20h reads as U+0020.
-        let blank = character == ' ';
-        cells.push(Cell { character, blank, colour, background });
+        // 20h reads as U+0020. "An underlined space is no blank."
+        let blank = character == ' ' && !underline;
+        cells.push(Cell { character, blank, colour, background, italics, underline });
         // "A colour holds from the next cell."
         if let Code::Control(new @ 0x00..=0x07) = code {
             colour = new;
@@ -264,7 +341,7 @@ fn cells(row: &[Code]) -> Vec<Cell> {
 fn character_of(code: Code) -> char {
     match code {
         Code::Character(character) => character,
-        Code::Control(_) | Code::RowEnd => ' ',
+        Code::Control(_) | Code::Switch(_) | Code::RowEnd => ' ',
     }
 }
 
@@ -290,31 +367,31 @@ fn spans(shown: &[Cell], double: bool) -> Vec<Span> {
 }
 
 /// "A span covers shown cells next to one another with equal background and,
-/// blanks apart, one colour". At least one cell.
+/// blanks apart, one colour"; "one underline throughout" and, blanks apart, one
+/// sort of letters, italic or upright. At least one cell.
 fn longest_span(cells: &[Cell]) -> usize {
-    let background = cells[0].background;
-    let mut colour = None;
+    let ground = cells[0].ground();
+    let mut ink = None;
     for (length, cell) in cells.iter().enumerate() {
-        if cell.background != background {
+        if cell.ground() != ground {
             return length;
         }
-        if cell.blank {
-            continue;
-        }
-        if colour.is_some_and(|colour| colour != cell.colour) {
+        let Some(own) = cell.ink() else { continue };
+        if ink.is_some_and(|ink| ink != own) {
             return length;
         }
-        colour = Some(cell.colour);
+        ink = Some(own);
     }
     cells.len()
 }
 
-/// The span of cells that go together; "A span of blanks only counts as
-/// white."
+/// The span of cells that go together; "a span of blanks only is white and
+/// upright".
 fn span(cells: &[Cell], double: bool) -> Span {
-    let colour = cells.iter().find(|cell| !cell.blank).map_or(WHITE, |cell| cell.colour);
+    let (background, underline) = cells[0].ground();
+    let (colour, italics) = cells.iter().find_map(Cell::ink).unwrap_or((WHITE, false));
     Span {
-        look: Look::pack(double, cells[0].background, colour),
+        look: Look::pack(italics, underline, double, background, colour),
         text: cells.iter().map(|cell| cell.character).collect(),
     }
 }
@@ -324,11 +401,20 @@ mod tests {
     use super::*;
 
     /// The look and the text of each span.
-    type PlainRow = Vec<(u8, String)>;
+    type PlainRow = Vec<(u16, String)>;
 
     /// The rows and the number of filler lines.
     fn rows(text: &[u8], mode: BreakMode, position: u8) -> Result<(Vec<PlainRow>, usize), Reason> {
-        let read = read(text, mode, position)?;
+        rows_of(Display::Teletext, text, mode, position)
+    }
+
+    fn rows_of(
+        display: Display,
+        text: &[u8],
+        mode: BreakMode,
+        position: u8,
+    ) -> Result<(Vec<PlainRow>, usize), Reason> {
+        let read = read(text, display, mode, position)?;
         let rows = read.rows.into_iter();
         let plain = rows.map(|row| row.into_iter().map(|s| (s.look.number(), s.text)).collect());
         Ok((plain.collect(), read.filler))
@@ -340,14 +426,101 @@ mod tests {
         rows.remove(0)
     }
 
+    /// The rows of an open subtitle at the top of a screen of 99 rows.
+    fn open_rows(text: &[u8]) -> Vec<PlainRow> {
+        let read = |mode| rows_of(Display::Open { rows: 99 }, text, mode, 0).unwrap();
+        let (rows, filler) = read(BreakMode::One);
+        assert_eq!(filler, 99 - rows.len());
+        // "either break mode reads as 1"
+        assert_eq!(read(BreakMode::Two).0, rows);
+        rows
+    }
+
+    fn one_open_row(text: &[u8]) -> PlainRow {
+        let mut rows = open_rows(text);
+        assert_eq!(rows.len(), 1);
+        rows.remove(0)
+    }
+
     #[test]
     fn looks_pack_and_unpack() {
         for look in Look::all() {
-            assert_eq!(Look::pack(look.double(), look.background(), look.colour()), look);
+            let (background, colour) = (look.background(), look.colour());
+            assert_eq!(Look::pack(look.italics(), look.underline(), look.double(), background, colour), look);
         }
-        assert_eq!(Look::pack(true, BLACK, 3).number(), 67);
-        assert_eq!(Look::pack(false, 1, WHITE).number(), 15);
+        assert_eq!(Look::pack(false, false, true, BLACK, 3).number(), 67);
+        assert_eq!(Look::pack(false, false, false, 1, WHITE).number(), 15);
+        assert_eq!(Look::pack(false, true, false, BLACK, WHITE).number(), 135);
+        assert_eq!(Look::pack(true, false, false, BLACK, WHITE).number(), 263);
+        assert_eq!(Look::pack(true, true, true, 7, 7).number(), 511);
         assert_eq!(Look::all().count(), Look::COUNT);
+    }
+
+    #[test]
+    fn switches_take_no_cell() {
+        assert_eq!(one_open_row(b"\x80A\x81"), vec![(263, "A".into())]);
+        assert_eq!(one_open_row(b"A\x82B\x83C"), vec![(7, "A".into()), (135, "B".into()), (7, "C".into())]);
+        assert_eq!(one_open_row(b"\x80\x82A\x81B"), vec![(391, "A".into()), (135, "B".into())]);
+        // Nothing changes where nothing stands between.
+        assert_eq!(one_open_row(b"A\x80\x82\x83\x81B\x81\x83C"), vec![(7, "ABC".into())]);
+        assert_eq!(one_open_row(b"\x80\x81\x82\x83"), vec![]);
+    }
+
+    #[test]
+    fn switches_hold_across_rows() {
+        let rows = open_rows(b"A\x80\x8AB\x8A\x8A\x81C\x82\x8AD");
+        let row = |look, text: &str| vec![(look, text.to_string())];
+        assert_eq!(rows, vec![row(7, "A"), row(263, "B"), vec![], row(7, "C"), row(135, "D")]);
+    }
+
+    #[test]
+    fn underlined_spaces() {
+        // They are not trimmed; plain ones are, also in italics.
+        assert_eq!(one_open_row(b" \x82 A \x83 "), vec![(135, " A ".into())]);
+        assert_eq!(one_open_row(b"\x80 A "), vec![(263, "A".into())]);
+        assert_eq!(one_open_row(b"\x80 "), vec![]);
+        assert_eq!(one_open_row(b"\x82 "), vec![(135, " ".into())]);
+        // Italics count on an underlined space.
+        assert_eq!(
+            one_open_row(b"\x82A\x80 \x81B"),
+            vec![(135, "A".into()), (391, " ".into()), (135, "B".into())]
+        );
+        // A blank leaves italics free: to the left of the first letter, too.
+        assert_eq!(one_open_row(b"A\x80 \x81B"), vec![(7, "A B".into())]);
+        assert_eq!(one_open_row(b"A \x80 B"), vec![(7, "A  ".into()), (263, "B".into())]);
+        // Between underlined words a span of blanks only: white and upright.
+        assert_eq!(
+            one_open_row(b"\x80\x82A\x83 \x82B"),
+            vec![(391, "A".into()), (7, " ".into()), (391, "B".into())]
+        );
+        assert_eq!(one_open_row(b"\x82A\x83 \x80 B"), vec![(135, "A".into()), (263, "  B".into())]);
+    }
+
+    #[test]
+    fn codes_of_open_subtitles() {
+        let open = Display::Open { rows: 99 };
+        let err = |display, text: &[u8]| rows_of(display, text, BreakMode::One, 1).unwrap_err();
+        for code in (0x00..=0x1F).chain([0x7F, 0x84, 0x85]).chain(0x86..=0x89).chain(0x8B..=0x9F) {
+            assert_eq!(err(open, &[code]), Reason::Code, "{code:02X}");
+        }
+        for code in 0x80..=0x85 {
+            assert_eq!(err(Display::Teletext, &[code]), Reason::Code, "{code:02X}");
+            assert_eq!(err(open, &[0xC2, code, b'e']), Reason::Code, "{code:02X}");
+        }
+        assert_eq!(one_open_row(b"\x80\xC2e"), vec![(263, "\u{E9}".into())]);
+    }
+
+    #[test]
+    fn cells_and_rows_of_open_subtitles() {
+        let read = |rows, text: &[u8], position| {
+            rows_of(Display::Open { rows }, text, BreakMode::Two, position).map(|(_, filler)| filler)
+        };
+        assert_eq!(read(1, &b"\x80A\x81".repeat(64), 0), Ok(0));
+        assert_eq!(read(1, &b"\x80A\x81".repeat(65), 0), Err(Reason::RowsDoNotFit));
+        assert_eq!(read(11, b"A\x8AB", 9), Ok(0));
+        assert_eq!(read(11, b"A\x8AB", 10), Err(Reason::RowsDoNotFit));
+        assert_eq!(read(99, &[0x8A; 98], 0), Ok(0));
+        assert_eq!(read(99, &[0x8A; 99], 0), Err(Reason::RowsDoNotFit));
     }
 
     #[test]

@@ -6,18 +6,19 @@ use mathlib.Core.Path.{sym, _∙_}
 use lib.ListN.{length}
 use Rattle.charset.proofs.Laws.{read-on, turn-on}
 use borrow.Author.Needs.{needs}
+use Rattle.cells.specs.Arrays.{penOf}
 use Rattle.cells.proofs.decode_row.Statement.{statement}
 use Rattle.cells.proofs.decode_row.Tie as tie
-use Rattle.cells.proofs.Decoding.{cells-one, Ahead, ahead-all, ahead-more, ahead-run, ahead-row-end, ahead-text-end}
+use Rattle.cells.proofs.Decoding.{cells-one, next-small, Ahead, ahead-all, ahead-more, ahead-run, ahead-row-end, ahead-text-end}
 
 abbrev Inv-loop : tie.InvT-loop
-Inv-loop text start characters₀ looks₀ pen₀ i₀ n₀ characters looks pen i n = Ahead text start pen₀ characters₀ looks₀ characters looks pen i n
+Inv-loop text start before characters₀ looks₀ pen₀ i₀ n₀ characters looks pen i n = Ahead text start pen₀ characters₀ looks₀ characters looks pen i n
 
 abbrev μ-loop : tie.MeasureT-loop
-μ-loop text start characters₀ looks₀ pen₀ i₀ n₀ characters looks pen i n = length text - i
+μ-loop text start before characters₀ looks₀ pen₀ i₀ n₀ characters looks pen i n = length text - i
 
 loop-holds : tie.Need-loop-holds Inv-loop μ-loop
-loop-holds c = ahead-all _ _ _ _ _
+loop-holds c = ahead-all _ _ _ _ _ (c .row-start .ensures)
 
 returns : tie.Need-returns Inv-loop μ-loop
 returns c =
@@ -39,8 +40,12 @@ put-run-requires c κs =
     let t = k .before .before .before .before .before in
     let l = t .before .before in
     let w = turn-on (t .token-at .ensures) (t .before .loop-test .taken) (p .plain-end .ensures) in
-    let few = cells-one (t .token-at .result .token) (l .loop .pen) in
-    (w .run .on, w .run .within, omega (arith, l .loop .inv .passed, l .before .before .before .before .before .good, k .put-cell .ensures .2))
+    let few = cells-one (t .token-at .result .token) (penOf (l .loop .pen)) in (
+      w .run .on,
+      w .run .within,
+      omega (arith, l .loop .inv .passed, l .before .before .before .before .before .good, k .put-cell .ensures .1),
+      rw (p .before .look-next .ensures) (next-small (t .token-at .result .token) (l .loop .pen)),
+    )
 
 loop-less : tie.Need-loop-less Inv-loop μ-loop
 loop-less c =
@@ -59,8 +64,8 @@ loop-again c =
     let s = k .put-cell .ensures in
     let r = m .put-run .ensures in
     ahead-run
-    (ahead-more (t .before .before .loop .inv) (w .read) (sym (e .before .is-row-end .ensures) ∙ e .if1 .left) (p .before .pen-after .ensures) (s .0) (s .1) (s .2))
-    (w .run) (r .0) (r .1) (r .2)
+    (ahead-more (t .before .before .loop .inv) (w .read) (sym (e .before .is-row-end .ensures) ∙ e .if1 .left) (p .before .look-next .ensures) (s .0 .0) (s .0 .1) (s .1))
+    (w .run) (r .0 .0) (r .0 .1) (r .1)
 
 returns-2 : tie.Need-returns-2 Inv-loop μ-loop
 returns-2 c = ahead-text-end (c .before .loop .inv) (c .loop-test .left) (c .before .before .row-start .ensures)

@@ -1,23 +1,30 @@
--- `put_cell` stores the cell of a token.
+-- `put_cell` stores the cell of a token that takes one.
 -- Assumes nothing.
-use mathlib.Core.Path.{_∙_}
-use Rattle.meaning.specs.Cells.{cellsOf}
-use Rattle.output.specs.Output.{stored}
-use Rattle.cells.specs.Arrays.{character, packedLook}
-use Rattle.cells.proofs.Decoding.{takes-cell}
+use mathlib.Core.Path.{sym, _∙_}
 use borrow.Author.Needs.{needs}
+use borrow.Author.Tests.{not-true, not-false}
+use Rattle.meaning.specs.Cells.{cellOf, cellsOf}
+use Rattle.cells.proofs.Keeping.{kept-nil}
+use Rattle.cells.specs.Arrays.{character, packedLook}
 use Rattle.cells.proofs.put_cell.Statement.{statement}
 use Rattle.cells.proofs.put_cell.Tie as tie
 
 returns : tie.Need-returns
-unfolding cellsOf stored character packedLook
+unfolding cellsOf
 returns c =
-    let l = c .before .before in
-    let p = l .before .before .before .before .before in
-    let d = p .before .before .cell-of .ensures in
-    rw (takes-cell _) (p .put-character .ensures ∙ rw (d .0), l .put-look .ensures ∙ rw (d .1), search needs)
+    rw (sym (c .before .takes-cell .ensures) ∙ not-true _ (c .if1 .taken)) ((sym (kept-nil _ _ _), sym (kept-nil _ _ _)), search needs)
+
+returns-2 : tie.Need-returns-2
+unfolding cellsOf cellOf character packedLook
+returns-2 c =
+    let d = c .before .before .before .before in
+    let h = d .before .before .before in
+    let t = h .before .before in
+    let s = d .store .ensures in
+    rw (sym (t .before .takes-cell .ensures) ∙ not-false _ (t .if1 .left))
+    ((rw (h .before .cell-character .ensures) at (s .0), rw (h .look-here .ensures) at (s .1)), search needs)
 
 pub put-cell-spec : {M : Type 1} → statement M
 put-cell-spec =
-    tie.close (tie.spec (λ c κs. search needs) (λ c κs. search needs) (λ c κs. search needs) (λ c. search needs) (λ c. search needs)
-    (λ c. search needs) returns)
+    tie.close (tie.spec (λ c κs. search needs) returns (λ c κs. search needs) (λ c κs. search needs) (λ c κs. search needs) (λ c. search needs) (λ c. search needs)
+    (λ c. search needs) returns-2)

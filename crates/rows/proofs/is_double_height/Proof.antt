@@ -8,6 +8,6 @@ use Rattle.rows.proofs.is_double_height.Tie as tie
 pub is-double-height-spec : {M : Type 1} → statement M
 unfolding isDoubleHeight
 is-double-height-spec =
-    tie.close (tie.spec (λ c. search needs) (λ c. search needs) (λ c. search needs) (λ c. search needs) (λ c. search needs)
+    tie.close (tie.spec (λ c. search needs) (λ c. search needs) (λ c. search needs) (λ c. search needs) (λ c. search needs) (λ c. search needs)
     (λ c. rw (c .before .t .given .1))
-    (λ c. search needs) (λ c. search needs))
+    (λ c. search needs) (λ c. search needs) (λ c. search needs))

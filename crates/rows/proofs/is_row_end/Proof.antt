@@ -7,6 +7,4 @@ use Rattle.rows.proofs.is_row_end.Tie as tie
 
 pub is-row-end-spec : {M : Type 1} → statement M
 unfolding isRowEnd
-is-row-end-spec =
-    tie.close (tie.spec (λ c. search needs) (λ c. search needs) (λ c. search needs) (λ c. search needs) (λ c. search needs) (λ c. search needs) (λ c. search needs)
-    (λ c. search needs))
+is-row-end-spec = tie.close (tie.spec (λ c. search needs) (λ c. search needs) (λ c. search needs) (λ c. search needs) (λ c. search needs) (λ c. search needs) (λ c. search needs) (λ c. search needs) (λ c. search needs) (λ c. search needs))

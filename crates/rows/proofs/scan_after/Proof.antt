@@ -11,19 +11,19 @@ use Rattle.rows.proofs.scan_after.Statement.{statement}
 use Rattle.rows.proofs.scan_after.Tie as tie
 
 abbrev Inv-loop : tie.InvT-loop
-Inv-loop text paired facts₀ even₀ more₀ next₀ facts even more next = TextLeft text paired facts even more next
+Inv-loop text teletext paired facts₀ even₀ more₀ next₀ facts even more next = TextLeft teletext text paired facts even more next
 
 abbrev μ-loop : tie.MeasureT-loop
-μ-loop text paired facts₀ even₀ more₀ next₀ facts even more next = cond more (suc (length text - next)) 0
+μ-loop text teletext paired facts₀ even₀ more₀ next₀ facts even more next = cond more (suc (length text - next)) 0
 
 loop-holds : tie.Need-loop-holds Inv-loop μ-loop
-loop-holds c = left-first _ (c .before .before .before .before .pre) (c .before .none .ensures) (c .with-row .ensures)
+loop-holds c = left-first _ (c .before .before .before .pre) (c .with-row .ensures)
 
 loop-less : tie.Need-loop-less Inv-loop μ-loop
 loop-less c =
     let a = c .before .before .before .before in
     let l = a .before .before in
-    let g = l .before .before .before .before .before .args in
+    let g = l .before .before .before .before .args in
     let k = c .before .before .scan-row in
     let n = on-after (g .text .now) _ (k .ensures .next) (k .ensures .ended) in
     rw (a .before .loop-test .taken)
@@ -40,5 +40,5 @@ returns c = left-last (c .before .loop .inv) (c .loop-test .left)
 
 pub scan-after-spec : {M : Type 1} → statement M
 scan-after-spec =
-    tie.close (tie.spec Inv-loop μ-loop (λ c κs. search needs) (λ c κs. search needs) loop-holds (λ c κs. search needs)
+    tie.close (tie.spec Inv-loop μ-loop (λ c κs. search needs) loop-holds (λ c κs. search needs)
     (λ c κs. search needs) (λ c κs. search needs) loop-less loop-again returns)

@@ -12,13 +12,13 @@ use Rattle.rows.proofs.scan_row.Statement.{statement}
 use Rattle.rows.proofs.scan_row.Tie as tie
 
 abbrev Inv-loop : tie.InvT-loop
-Inv-loop text start facts₀ i₀ facts i = RowLeft text start facts i
+Inv-loop text start teletext facts₀ i₀ facts i = RowLeft teletext text start facts i
 
 abbrev μ-loop : tie.MeasureT-loop
-μ-loop text start facts₀ i₀ facts i = length text - i
+μ-loop text start teletext facts₀ i₀ facts i = length text - i
 
 loop-holds : tie.Need-loop-holds Inv-loop μ-loop
-loop-holds c = left-start _ _ (c .none .ensures)
+loop-holds c = left-start _ _ _
 
 returns : tie.Need-returns Inv-loop μ-loop
 returns c = left-end (c .before .before .before .before .loop .inv) (read-on (c .before .before .token-at .ensures) (c .before .before .before .loop-test .taken)) (sym (c .before .is-row-end .ensures) ∙ c .if1 .taken)
@@ -46,5 +46,5 @@ returns-2 c = left-over (c .before .loop .inv) (c .loop-test .left)
 
 pub scan-row-spec : {M : Type 1} → statement M
 scan-row-spec =
-    tie.close (tie.spec Inv-loop μ-loop (λ c κs. search needs) loop-holds (λ c κs. search needs) (λ c κs. search needs) returns
+    tie.close (tie.spec Inv-loop μ-loop loop-holds (λ c κs. search needs) (λ c κs. search needs) returns
     (λ c κs. search needs) (λ c κs. search needs) sub-with-characters (λ c κs. search needs) loop-less loop-again returns-2)

@@ -2,19 +2,17 @@
 -- Assumes nothing.
 use mathlib.Core.Path.{sym}
 use Rattle.meaning.specs.Lists.{joined, bytes}
-use Rattle.meaning.specs.Document.{sizeName, writeStyle}
-use Rattle.output.proofs.Laws.{_⨟_, wrote-length}
+use Rattle.meaning.specs.Document.{styleEnd, writeStyle}
+use Rattle.output.proofs.Laws.{_⨟_}
 use borrow.Author.Needs.{needs}
 use Rattle.styles.proofs.put_style.Statement.{statement}
 use Rattle.styles.proofs.put_style.Tie as tie
 
 returns : tie.Need-returns
-unfolding writeStyle sizeName joined bytes
+unfolding writeStyle styleEnd joined bytes
 returns c =
-    let c9 = c .before .before in
-    let c8 = c9 .before .before .before .before .before in
-    let c7 = c8 .before .before .before .before .before .before in
-    let c6 = c7 .before .before .before .before .before in
+    let c7 = c .before .before in
+    let c6 = c7 .before .before .before .before in
     let c5 = c6 .before .before .before .before in
     let c4 = c5 .before .before .before .before .before in
     let c3 = c4 .before .before .before .before in
@@ -27,16 +25,10 @@ returns c =
     ⨟ c4 .put-colour-name .ensures
     ⨟ c5 .put3 .ensures
     ⨟ c6 .put-colour-name2 .ensures
-    ⨟ c7 .put4 .ensures
-    ⨟ c8 .put-either .ensures
-    ⨟ c9 .put5 .ensures)
-
-same-length : tie.Need-same-length
-same-length c = wrote-length (returns c)
+    ⨟ c7 .put-style-end .ensures)
 
 pub put-style-spec : {M : Type 1} → statement M
 put-style-spec =
     tie.close (tie.spec (λ c κs. search needs) (λ c. search needs) (λ c κs. search needs) (λ c κs. search needs) (λ c. search needs)
-    (λ c κs. search needs) (λ c κs. search needs) (λ c. search needs) (λ c κs. search needs) (λ c κs. search needs) (λ c. search needs)
-    (λ c κs. search needs) (λ c. search needs) (λ c. search needs) (λ c κs. search needs) (λ c. search needs) (λ c κs. search needs)
-    same-length returns)
+    (λ c κs. search needs) (λ c κs. search needs) (λ c. search needs) (λ c κs. search needs) (λ c κs. search needs) (λ c κs. search needs)
+    (λ c. search needs) returns)

@@ -1,40 +1,34 @@
--- `put_styles` writes a line for each mark, look by look.
+-- `put_styles` writes a line for each marked look.
 -- Assumes nothing.
-use mathlib.Core.Path.{_≡_}
-use Prim.Native.Nat.{_-_, _≤_}
 use native.Mathlib.Omega.{arith}
-use Rattle.meaning.specs.Lists.{upFrom}
-use Rattle.meaning.specs.Looks.{lookCount}
-use Rattle.output.specs.Output.{Wrote}
-use Rattle.output.proofs.Laws.{wrote-length, wrote-as, wrote-nothing}
-use Rattle.styles.proofs.Laws.{linesTo, lines-more, lines-all}
-use mathlib.Core.List.{flatMap}
+use lib.ListN.{length}
 use borrow.Author.Needs.{needs}
+use Rattle.output.proofs.Laws.{wrote-length, wrote-nothing}
+use Rattle.styles.specs.Styles.{lookAndLater}
+use Rattle.styles.proofs.Laws.{LinesLeft, lines-begun, lines-on, lines-written, later-fewer}
 use Rattle.styles.proofs.put_styles.Statement.{statement}
 use Rattle.styles.proofs.put_styles.Tie as tie
 
 abbrev Inv-loop : tie.InvT-loop
-Inv-loop out₀ at marks p₀ look₀ out p look = (look ≤ lookCount) × Wrote out₀ at (linesTo (marks .on) look) out p
+Inv-loop out₀ at marks p₀ look₀ out p look = LinesLeft (marks .on) out₀ at out p look
 
 abbrev μ-loop : tie.MeasureT-loop
-μ-loop out₀ at marks p₀ look₀ out p look = lookCount - look
+μ-loop out₀ at marks p₀ look₀ out p look = length (lookAndLater (marks .on) look)
 
-loop-holds : tie.Need-loop-holds Inv-loop μ-loop
-unfolding linesTo upFrom flatMap
-loop-holds c = (omega arith, wrote-nothing _ _ (omega arith) (omega arith))
+loop-less : tie.Need-loop-less Inv-loop μ-loop
+loop-less c =
+    let l = c .before .before .before .before .before .before .before .before .loop in
+    later-fewer _ (l .look) _ (omega arith) (c .next-marked2 .ensures)
 
 loop-again : tie.Need-loop-again Inv-loop μ-loop
 loop-again c =
-    let l = c .before .before .before .before .before .before .loop in
-    (omega arith, lines-more _ (l .look) (l .inv .1) (c .before .before .put-style-if .ensures))
+    let d = c .before .before .before .before .before in
+    lines-on (omega arith) (c .next-marked2 .ensures) (d .before .before .before .loop .inv) (d .put-style .ensures)
 
 returns : tie.Need-returns Inv-loop μ-loop
-returns c =
-    let l = c .before .loop in
-    let z : l .look ≡ lookCount = omega arith in
-    wrote-as (lines-all _) (rw z at (l .inv .1))
+returns c = lines-written (omega arith) (c .before .loop .inv)
 
 pub put-styles-spec : {M : Type 1} → statement M
 put-styles-spec =
-    tie.close (tie.spec Inv-loop μ-loop loop-holds (λ c. search needs) (λ c. search needs) (λ c κs. search needs) (λ c. search needs)
-    (λ c. search needs) loop-again (λ c. wrote-length (returns c)) returns)
+    tie.close (tie.spec Inv-loop μ-loop (λ c κs. search needs) (λ c. lines-begun (c .next-marked .ensures) (wrote-nothing _ _ (omega arith) (omega arith))) (λ c. search needs)
+    (λ c κs. search needs) (λ c. search needs) (λ c κs. search needs) loop-less loop-again (λ c. wrote-length (returns c)) returns)

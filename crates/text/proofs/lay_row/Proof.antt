@@ -10,7 +10,7 @@ use Rattle.text.proofs.lay_row.Tie as tie
 
 returns : tie.Need-returns
 returns c =
-    let p = c .before .before .before .before .before in
+    let p = c .before .before .before .before in
     let d = p .before .before .before .before .before .before .before in
     row-done (d .decode-row .ensures) (length-replicate {A = ℕ} rowLimit 0) (length-replicate {A = ℕ} rowLimit 0) (p .put-row .ensures)
 

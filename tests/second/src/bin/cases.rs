@@ -19,7 +19,7 @@ struct Case {
 
 fn main() {
     let input = std::env::args().nth(1).is_some_and(|word| word == "input");
-    for case in cases() {
+    for case in cases().into_iter().chain(open_cases()) {
         if input {
             case.write();
         } else {
@@ -46,6 +46,50 @@ fn cases() -> Vec<Case> {
     ]
 }
 
+/// Document 02, request 1, both sides of each sentence.
+fn open_cases() -> Vec<Case> {
+    let plain = open(b"11", 5, b"A");
+    let two_rows = b"A\x8AB";
+    vec![
+        case("dsc-0", plain.clone()),
+        case("dsc-3", with(&plain, 11, b"3")),
+        case("dsc-slash", with(&plain, 11, b"/")),
+        case("open-vp-0", open(b"11", 0, b"A")),
+        case("teletext-vp-0", teletext(0, b"A")),
+        case("open-vp-last", open(b"11", 10, b"A")),
+        case("open-vp-mnr", open(b"11", 11, b"A")),
+        case("open-rows-to-mnr", open(b"11", 9, two_rows)),
+        case("open-rows-past-mnr", open(b"11", 10, two_rows)),
+        case("mnr-00", open(b"00", 0, b"A")),
+        case("mnr-01", open(b"01", 0, b"A")),
+        case("mnr-99", open(b"99", 98, b"A")),
+        case("mnr-1-blank", open(b"1 ", 0, b"A")),
+        case("mnr-blank-1", open(b" 1", 0, b"A")),
+        case("mnr-00-teletext", with(&teletext(20, b"A"), 253, b"00")),
+        case("mnr-letters-teletext", with(&teletext(20, b"A"), 253, b"XY")),
+        case("mnr-00-bad-cct", with(&open(b"00", 0, b"A"), 12, b"01")),
+        case("mnr-00-bad-tnb", with(&open(b"00", 0, b"A"), 238, b"00002")),
+        case("mnr-11-bad-tnb", with(&plain, 238, b"00002")),
+        case("open-cells-64", open(b"11", 10, &row_with_ten_switches(64))),
+        case("open-cells-65", open(b"11", 10, &row_with_ten_switches(65))),
+        Case { mode: 2, ..case("open-mode-2", open(b"11", 9, two_rows)) },
+        Case { mode: 3, ..case("open-mode-3", plain.clone()) },
+        case("spaces-plain", open(b"11", 10, b" A B ")),
+        case("spaces-underlined", open(b"11", 10, b"\x82 A B \x83")),
+        case("spaces-underlined-ends", open(b"11", 10, b"\x82 \x83A B\x82 \x83")),
+        case("spaces-italic", open(b"11", 10, b"\x80 \x81A\x80 \x81B\x80 \x81")),
+        case("switch-in-open", open(b"11", 10, b"A\x80B")),
+        case("switch-in-teletext", teletext(20, b"A\x80B")),
+        case("colour-in-teletext", teletext(20, b"A\x01B")),
+        case("colour-in-open", open(b"11", 10, b"A\x01B")),
+        case("code-84-in-open", open(b"11", 10, b"A\x84B")),
+        case("accent-after-switch", open(b"11", 10, b"\x80\xC2e")),
+        case("accent-before-switch", open(b"11", 10, b"\xC2\x80e")),
+        case("italics-hold", two_subtitles(b"\x80A\x8AB")),
+        case("italics-end", two_subtitles(b"\x80A\x81\x8AB")),
+    ]
+}
+
 fn case(name: &'static str, file: Vec<u8>) -> Case {
     Case { name, mode: 1, file, room: ROOMY }
 }
@@ -53,6 +97,39 @@ fn case(name: &'static str, file: Vec<u8>) -> Case {
 /// GSI and BLOCK(frame).
 fn one_block(rate: u8, frame: u8) -> Vec<u8> {
     assemble::file(rate, &[Tti { tco: [10, 0, 3, frame], ..tti(&[0x41]) }])
+}
+
+/// GSI(25, 1) and SUBTITLE(1, vp, text).
+fn teletext(vp: u8, text: &[u8]) -> Vec<u8> {
+    assemble::file(25, &[Tti { vp, ..tti(text) }])
+}
+
+/// OPEN(rows, 1) and SUBTITLE(1, vp, text).
+fn open(rows: &[u8; 2], vp: u8, text: &[u8]) -> Vec<u8> {
+    with(&with(&teletext(vp, text), 11, b"0"), 253, rows)
+}
+
+/// The same file with other bytes from this offset.
+fn with(file: &[u8], at: usize, bytes: &[u8]) -> Vec<u8> {
+    let mut file = file.to_vec();
+    file[at..at + bytes.len()].copy_from_slice(bytes);
+    file
+}
+
+/// So many cells, and ten switches between them: one after every five cells.
+fn row_with_ten_switches(cells: usize) -> Vec<u8> {
+    let mut row = Vec::new();
+    for switch in b"\x80\x82\x81\x83\x80\x82\x81\x83\x80\x81" {
+        row.extend(b"AAAAA");
+        row.push(*switch);
+    }
+    row.resize(10 + cells, b'A');
+    row
+}
+
+/// OPEN("11", 2), SUBTITLE(1, 9, text) and SUBTITLE(2, 10, 43h).
+fn two_subtitles(text: &[u8]) -> Vec<u8> {
+    assemble::open_file(25, 11, &[Tti { vp: 9, ..tti(text) }, Tti { sn: 2, vp: 10, ..tti(b"C") }])
 }
 
 impl Case {

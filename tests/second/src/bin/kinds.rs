@@ -1,7 +1,7 @@
 //! Writes a file of every kind, `NAME.stl`, into a directory: `kinds DIR`. All
 //! are accepted in break mode 1; their documents go through an XML parser.
 
-use second::assemble::{file, tti, Tti};
+use second::assemble::{file, open_file, tti, Tti};
 use std::path::Path;
 use std::{env, fs, io};
 
@@ -23,6 +23,10 @@ fn kinds() -> Vec<(&'static str, Vec<u8>)> {
         ("accents", file(25, &accents())),
         ("rows", file(25, &rows())),
         ("30-frames", file(30, &[Tti { tco: [10, 0, 3, 29], ..tti(b"Thirty") }])),
+        ("open-empty", open_file(25, 99, &[])),
+        ("open-looks", open_file(25, 23, &[tti(b"plain \x80italic\x82 both\x81 underlined\x83 plain")])),
+        ("open-spaces", open_file(25, 11, &open_spaces())),
+        ("open-rows", open_file(30, 99, &open_rows())),
     ]
 }
 
@@ -54,5 +58,26 @@ fn rows() -> [Tti; 4] {
         Tti { sn: 2, jc: 3, ..tti(b"") },
         Tti { sn: 3, jc: 0, vp: 23, ..tti(b"Last line") },
         Tti { sn: 4, cf: 1, ..tti(b"A comment") },
+    ]
+}
+
+/// Underlined spaces at both ends and alone, blanks in italics, and signs that
+/// are escaped.
+fn open_spaces() -> [Tti; 3] {
+    [
+        Tti { vp: 0, ..tti(b" \x82 Hotel \x80& Bar \x83 ") },
+        Tti { sn: 2, vp: 9, ..tti(b"\x82  \x83\x8A\x80  ") },
+        Tti { sn: 3, vp: 10, jc: 3, ..tti(b"\x82a\x83 \x82<b>\x83 ]]> \x80\xC2e\xA0\xD5") },
+    ]
+}
+
+/// Italics over row ends, empty rows among them, with many filler lines; an open
+/// subtitle that shows nothing; one in the last row; a comment set.
+fn open_rows() -> [Tti; 4] {
+    [
+        Tti { vp: 0, jc: 1, ..tti(b"\x80First\x8ASecond\x8A\x8A\x82Fourth\x81\x8AFifth") },
+        Tti { sn: 2, vp: 50, jc: 0, ..tti(b"\x80\x82") },
+        Tti { sn: 3, vp: 98, jc: 3, ..tti(b"Last row") },
+        Tti { sn: 4, vp: 255, cf: 1, ..tti(b"\x01A comment") },
     ]
 }

@@ -1,38 +1,58 @@
-//! Writes samples/sample.stl to standard output: a comment set and seven
-//! subtitles, one for each thing that a first look should show. Both break
-//! modes give the same document, because no double-height text has a row end.
+//! Writes a sample to standard output: samples/sample.stl, and with `open`
+//! samples/open.stl. Both break modes give the same document, because no
+//! double-height text has a row end.
 
-use second::assemble::{gsi, time, tti, Tti};
+use second::assemble::{gsi, open_gsi, time, tti, with_blocks, Tti};
 use std::io::{self, Write};
 
 fn main() -> io::Result<()> {
-    let blocks = blocks();
-    let mut file = filled_gsi(&blocks);
-    blocks.iter().for_each(|block| file.extend(block.bytes()));
+    let file = match std::env::args().nth(1).as_deref() {
+        None => teletext(),
+        Some("open") => open(),
+        Some(_) => return Err(io::Error::other("usage: make_sample [open]")),
+    };
     io::stdout().lock().write_all(&file)
 }
 
-/// The converter reads DFC, DSC, CCT and TNB only; the other fields are here
-/// because files in use have them.
-fn filled_gsi(blocks: &[Tti]) -> Vec<u8> {
-    let mut gsi = gsi(25, blocks.len()).to_vec();
-    let mut put = |at: usize, text: &str| gsi[at..at + text.len()].copy_from_slice(text.as_bytes());
-    put(0, "850"); // CPN: code page of this GSI
-    put(14, "09"); // LC: English
-    put(16, "Harbour lights"); // OPT: title of the programme
-    put(224, "200101"); // CD: made
-    put(230, "200102"); // RD: revised
-    put(236, "01"); // RN
-    put(243, "00008"); // TNS: sets
-    put(248, "001"); // TNG: groups
-    put(251, "40"); // MNC: characters in a row
-    put(253, "23"); // MNR: rows
-    put(255, "1"); // TCS: time code may be used
-    put(256, "10000000"); // TCP: start of the programme
-    put(264, "10000500"); // TCF: first time in of a subtitle
-    put(272, "11"); // TND and DSN: one disk, the first
-    put(274, "GBR"); // CO: country
-    gsi
+/// A comment set and seven subtitles, one for each thing that a first look
+/// should show.
+fn teletext() -> Vec<u8> {
+    let blocks = blocks();
+    let mut gsi = gsi(25, blocks.len());
+    fill(&mut gsi, "Harbour lights", "00008", "10000500");
+    put(&mut gsi, 253, "23"); // MNR: rows
+    with_blocks(&gsi, &blocks)
+}
+
+/// Open subtitles of a film, on a screen of eleven rows.
+fn open() -> Vec<u8> {
+    let blocks = open_blocks();
+    let mut gsi = open_gsi(25, 11, blocks.len());
+    fill(&mut gsi, "The night ferry", "00007", "10000100");
+    with_blocks(&gsi, &blocks)
+}
+
+/// The converter reads DFC, DSC, CCT, TNB and, of open subtitles, MNR only; the
+/// other fields are here because files in use have them.
+fn fill(gsi: &mut [u8], title: &str, sets: &str, first: &str) {
+    put(gsi, 0, "850"); // CPN: code page of this GSI
+    put(gsi, 14, "09"); // LC: English
+    put(gsi, 16, title); // OPT: title of the programme
+    put(gsi, 224, "200101"); // CD: made
+    put(gsi, 230, "200102"); // RD: revised
+    put(gsi, 236, "01"); // RN
+    put(gsi, 243, sets); // TNS: sets
+    put(gsi, 248, "001"); // TNG: groups
+    put(gsi, 251, "40"); // MNC: characters in a row
+    put(gsi, 255, "1"); // TCS: time code may be used
+    put(gsi, 256, "10000000"); // TCP: start of the programme
+    put(gsi, 264, first); // TCF: first time in of a subtitle
+    put(gsi, 272, "11"); // TND and DSN: one disk, the first
+    put(gsi, 274, "GBR"); // CO: country
+}
+
+fn put(gsi: &mut [u8], at: usize, text: &str) {
+    gsi[at..at + text.len()].copy_from_slice(text.as_bytes());
 }
 
 fn blocks() -> Vec<Tti> {
@@ -52,14 +72,19 @@ fn blocks() -> Vec<Tti> {
         // Signs that a document has to escape.
         Tti { vp: 20, jc: 3, ..tti(b"\x0DFish & chips < \xA35") },
     ];
+    number(&mut blocks);
+    blocks.extend(in_two_blocks(8));
+    blocks
+}
+
+/// Numbers from 1, one every four seconds from 10:00:01:00, each for three
+/// seconds.
+fn number(blocks: &mut [Tti]) {
     for (number, block) in blocks.iter_mut().enumerate() {
         block.sn = number as u16 + 1;
-        // One every four seconds from 10:00:01:00, each for three seconds.
         let first = (36_001 + 4 * number) * 25;
         (block.tci, block.tco) = (time(first, 25), time(first + 75, 25));
     }
-    blocks.extend(in_two_blocks(8));
-    blocks
 }
 
 /// A set of two blocks. The accent is the last code of the first block and its
@@ -69,4 +94,32 @@ fn in_two_blocks(sn: u16) -> [Tti; 2] {
     let first =
         Tti { ebn: 0x00, text: b"Good night, good night,\x8Aand \xC1a bient\xC3".to_vec(), ..both.clone() };
     [first, Tti { text: b"ot!".to_vec(), ..both }]
+}
+
+fn open_blocks() -> Vec<Tti> {
+    let mut blocks = vec![
+        // A voice in italics, which hold over the row end.
+        Tti { vp: 9, ..tti(b"\x80That winter the ferry\x8Astill ran at night.\x81") },
+        // A word in italics: the blank after it goes with its span.
+        Tti { vp: 10, ..tti(b"You were \x80here\x81 all the time, Ren\xC2e?") },
+        // Two speakers, at the left.
+        Tti { vp: 9, jc: 1, ..tti(b"- Did she leave a name?\x8A- Only a letter.") },
+        // A sign at the top, underlined, the spaces too.
+        Tti { vp: 0, ..tti(b"\x82 CAF\xC2E DE L'\xC3ILE \x83") },
+        // A voice from the right; the italics end with the subtitle.
+        Tti { vp: 10, jc: 3, ..tti(b"\x80Last call for \x82Pier 4\x83 & 5.") },
+        // Upright again.
+        Tti { vp: 9, jc: 3, ..tti(b"Run, Chlo\xC8e!\x8AThey won't wait.") },
+    ];
+    number(&mut blocks);
+    blocks.extend(over_a_block_end(7));
+    blocks
+}
+
+/// A set of two blocks with a switch at the end of the first: it holds in the
+/// second.
+fn over_a_block_end(sn: u16) -> [Tti; 2] {
+    let both = Tti { sn, tci: [10, 0, 25, 0], tco: [10, 0, 28, 0], vp: 10, ..tti(b"") };
+    let first = Tti { ebn: 0x00, text: b"Then \x80".to_vec(), ..both.clone() };
+    [first, Tti { text: b"bon voyage\x81, my friend.".to_vec(), ..both }]
 }

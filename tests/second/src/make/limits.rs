@@ -3,11 +3,19 @@
 use super::header::good_header;
 use super::plan::{End, Plan, TEXT};
 use super::sets::{add_user_blocks, comment_set, pieces, set};
+use super::switches::OPEN_SOUP;
 use super::text::{row_of, Text, SOUP};
 use crate::dice::Dice;
+use crate::display::Display;
 
 pub(super) fn paper_case(dice: &mut Dice) -> Plan {
-    let mut plan = Plan::new(dice);
+    // Most lines hold of open subtitles, too; their screen has a row 20.
+    let display = match dice.below(5) {
+        0 | 1 => Display::Open { rows: dice.pick(&[24, 24, 30, 99]) },
+        _ => Display::Teletext,
+    };
+    let open = display.is_open();
+    let mut plan = Plan::of(dice, display);
     // 1,023 bytes, 1,024 with TNB 00000, 1,025.
     let case = dice.below(20);
     if case == 0 {
@@ -68,9 +76,10 @@ pub(super) fn paper_case(dice: &mut Dice) -> Plan {
         }
         // VP, rows and height: what just fits and just does not.
         6 | 7 => {
-            position = dice.pick(&[0, 1, 20, 21, 22, 23, 24]);
-            let double = dice.chance(50);
-            let room = 24usize.saturating_sub(usize::from(position)) / if double { 2 } else { 1 };
+            let end = display.end();
+            position = dice.pick(&[0, 1, end - 4, end - 3, end - 2, end - 1, end]);
+            let double = !open && dice.chance(50);
+            let room = usize::from(end - position) / if double { 2 } else { 1 };
             let rows = dice.between(room.saturating_sub(1).max(1), room + 1);
             let mut rows = Text { rows: vec![b"x".to_vec(); rows], double };
             if double {
@@ -80,13 +89,13 @@ pub(super) fn paper_case(dice: &mut Dice) -> Plan {
         }
         // An accent last in a block, its letter first in the next.
         8 | 9 => {
-            let blank = dice.pick(&[0x20, 0x0B]);
+            let blank = if open { dice.pick(&[0x20, 0x20, 0x80]) } else { dice.pick(&[0x20, 0x0B]) };
             let mut first = vec![blank; dice.pick(&[0, 50, 111])];
             if first.len() > 60 {
                 first[55] = 0x8A;
             }
             first.push(dice.pick(&[0xC2, 0xC2, 0xC8, 0xC9, 0xCF]));
-            let mut rest = vec![vec![dice.pick(b"eeeaoqE \x8A\x01\xC2")]];
+            let mut rest = vec![vec![dice.pick(b"eeeeaoqE \x80\x83\x8A\x01\xC2")]];
             if dice.chance(30) {
                 rest.insert(0, Vec::new());
             }
@@ -108,7 +117,7 @@ pub(super) fn paper_case(dice: &mut Dice) -> Plan {
         // 63, 64 and 65 cells.
         11 | 12 => {
             let cells = dice.pick(&[63, 64, 64, 65, 65, 66]);
-            text = row_of(dice, cells);
+            text = row_of(dice, display, cells);
             if dice.chance(50) {
                 text.splice(0..0, *b"x\x8A");
             }
@@ -116,23 +125,31 @@ pub(super) fn paper_case(dice: &mut Dice) -> Plan {
                 text.extend(b"\x8Ax");
             }
         }
-        // Runs of 8Ah in double height.
+        // Runs of 8Ah in double height, and where there is no height.
         13 | 14 => {
-            text = if dice.chance(80) { b"\x0DA".to_vec() } else { b"A".to_vec() };
+            let rows: [&[u8]; 5] = if open {
+                [b"B", b"", b"\x80B", b"\x81\x82B", b"B\x83"]
+            } else {
+                [b"B", b"", b"\x0DB", b"\x0B\x0D\x0DB", b"B\x0D"]
+            };
+            text = if !open && dice.chance(80) { b"\x0DA".to_vec() } else { b"A".to_vec() };
             for _ in 0..dice.between(1, 3) {
                 text.resize(text.len() + dice.pick(&[1, 2, 2, 2, 3, 4, 4]), 0x8A);
-                text.extend(dice.pick(&[&b"B"[..], b"", b"\x0DB", b"\x0B\x0D\x0DB", b"B\x0D"]));
+                text.extend(dice.pick(&rows));
             }
             position = dice.pick(&[1, 8, 16, 20]);
         }
         // The printed spans and their neighbours.
         15 | 16 => {
-            let printed: [&[u8]; 4] =
-                [b"\x01A\x02\x03B", b"\x01A\x07 \x01B", b"\x01\x1D\x07A", b"\x0D\x0B\x0BHi\x03you"];
+            let (printed, soup): ([&[u8]; 4], &[u8]) = if open {
+                ([b"\x80A\x81 \x82B", b"\x80A\x81 \x80B", b"\x82 A \x83 ", b"A\x82\x80 \x83B"], OPEN_SOUP)
+            } else {
+                ([b"\x01A\x02\x03B", b"\x01A\x07 \x01B", b"\x01\x1D\x07A", b"\x0D\x0B\x0BHi\x03you"], SOUP)
+            };
             text = dice.pick(&printed).to_vec();
             for _ in 0..dice.between(0, 2) {
                 let at = dice.below(text.len());
-                text[at] = dice.pick(SOUP);
+                text[at] = dice.pick(soup);
             }
         }
         // A comment set with a wild header.

@@ -7,6 +7,7 @@ use super::sets::{add_user_blocks, comment_set, pieces, set};
 use super::spoil::spoil;
 use super::text::{bad_fragment, good_position, good_text, row_of, Text};
 use crate::dice::Dice;
+use crate::display::Display;
 
 pub(super) fn ordinary(dice: &mut Dice) -> Plan {
     let faults: Vec<u8> = match dice.below(100) {
@@ -45,7 +46,7 @@ pub(super) fn with_faults(dice: &mut Dice, faults: Vec<u8>) -> Plan {
             plan.blocks.extend(blocks);
             continue;
         }
-        let blocks = subtitle_set(dice, sn, plan.mode, plan.rate, &text_faults);
+        let blocks = subtitle_set(dice, sn, &plan, &text_faults);
         plan.blocks.extend(blocks);
     }
     // Where the first blocks stand is asked while the plan is still good.
@@ -65,30 +66,35 @@ pub(super) fn fault(dice: &mut Dice) -> u8 {
 }
 
 /// A subtitle set, its text with faults of numbers 13 to 15.
-pub(super) fn subtitle_set(dice: &mut Dice, sn: u16, mode: u64, rate: u8, faults: &[u8]) -> Vec<Block> {
-    let mut text = good_text(dice);
-    let mut position = good_position(dice, text.lines());
+pub(super) fn subtitle_set(dice: &mut Dice, sn: u16, plan: &Plan, faults: &[u8]) -> Vec<Block> {
+    let Plan { mode, display, .. } = *plan;
+    let mut text = good_text(dice, display);
+    let mut position = good_position(dice, display, text.lines());
     if faults.contains(&15) {
-        position = spoil_fit(dice, &mut text, position);
+        position = spoil_fit(dice, display, &mut text, position);
     }
-    let mut bytes =
-        if faults.contains(&14) { spoil_height(dice, &mut text, mode) } else { text.joined(mode) };
+    let mut bytes = match faults.contains(&14) {
+        // There is no height in open subtitles.
+        true if display.is_open() => spoil_breaks(dice, &text),
+        true => spoil_height(dice, &mut text, mode),
+        false => text.joined(mode),
+    };
     if faults.contains(&13) {
-        spoil_codes(dice, &mut bytes);
+        spoil_codes(dice, display, &mut bytes);
     }
-    let header = good_header(dice, sn, rate);
+    let header = good_header(dice, sn, plan.rate);
     let pieces = pieces(dice, &bytes);
     set(dice, &header, position, &pieces)
 }
 
 /// Aims at 13.
-pub(super) fn spoil_codes(dice: &mut Dice, text: &mut Vec<u8>) {
+pub(super) fn spoil_codes(dice: &mut Dice, display: Display, text: &mut Vec<u8>) {
     if dice.chance(10) {
         // An accent with nothing after it.
         text.push(dice.pick(&[0xC1, 0xC2, 0xC8, 0xCF]));
         return;
     }
-    let fragment = bad_fragment(dice);
+    let fragment = bad_fragment(dice, display);
     let at = match dice.below(4) {
         0 => 0,
         1 => text.len(),
@@ -121,31 +127,34 @@ pub(super) fn spoil_height(dice: &mut Dice, text: &mut Text, mode: u64) -> Vec<u
             text.rows[row].insert(at, 0x0D);
             text.joined(mode)
         }
-        // Runs of 8Ah of odd and even lengths: good in mode 1, and in mode 2
-        // if the height is single.
-        _ => {
-            let mut bytes = text.rows[0].clone();
-            for row in &text.rows[1..] {
-                bytes.resize(bytes.len() + dice.between(1, 4), 0x8A);
-                bytes.extend(row);
-            }
-            if dice.chance(50) {
-                bytes.resize(bytes.len() + dice.between(1, 4), 0x8A);
-            }
-            bytes
-        }
+        _ => spoil_breaks(dice, text),
     }
 }
 
+/// Runs of 8Ah of odd and even lengths: good in mode 1, and in mode 2 if the
+/// height is single.
+fn spoil_breaks(dice: &mut Dice, text: &Text) -> Vec<u8> {
+    let mut bytes = text.rows[0].clone();
+    for row in &text.rows[1..] {
+        bytes.resize(bytes.len() + dice.between(1, 4), 0x8A);
+        bytes.extend(row);
+    }
+    if dice.chance(50) {
+        bytes.resize(bytes.len() + dice.between(1, 4), 0x8A);
+    }
+    bytes
+}
+
 /// Aims at 15. Gives the VP.
-pub(super) fn spoil_fit(dice: &mut Dice, text: &mut Text, position: u8) -> u8 {
+pub(super) fn spoil_fit(dice: &mut Dice, display: Display, text: &mut Text, position: u8) -> u8 {
+    let end = usize::from(display.end());
     match dice.below(4) {
         // A row of 63 to 66 cells; 0Dh is one of them.
         0 => {
             let row = dice.below(text.rows.len());
             let length = dice.pick(&[63, 64, 65, 65, 65, 66, 80]);
             let controls = usize::from(text.rows[row].contains(&0x0D));
-            let mut cells = row_of(dice, length - controls);
+            let mut cells = row_of(dice, display, length - controls);
             if controls == 1 {
                 cells.insert(0, 0x0D);
             }
@@ -154,12 +163,12 @@ pub(super) fn spoil_fit(dice: &mut Dice, text: &mut Text, position: u8) -> u8 {
         }
         // One line more than fits, or exactly as many.
         1 | 2 => {
-            let highest = 24 - text.lines();
-            dice.between(highest, highest + 2).min(23) as u8
+            let highest = end - text.lines();
+            dice.between(highest, highest + 2).min(end - 1) as u8
         }
         // One row more than fits, or exactly as many.
         _ => {
-            let room = (24 - usize::from(position)) / if text.double { 2 } else { 1 };
+            let room = (end - usize::from(position)) / if text.double { 2 } else { 1 };
             let wanted = dice.between(room, room + 1).max(text.rows.len());
             text.rows.resize(wanted, Vec::new());
             position

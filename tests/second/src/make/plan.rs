@@ -1,7 +1,8 @@
 //! The plan of a file.
 
-use crate::assemble::five_digits;
+use crate::assemble::{five_digits, two_digits};
 use crate::dice::Dice;
+use crate::display::Display;
 
 pub(super) type Block = [u8; 128];
 
@@ -16,6 +17,9 @@ pub(super) const JC: usize = 14;
 pub(super) const CF: usize = 15;
 pub(super) const TEXT: usize = 16;
 
+/// MNR, two bytes of the GSI.
+pub(super) const MNR: usize = 253;
+
 pub(super) const USER_DATA: u8 = 0xFE;
 pub(super) const LAST: u8 = 0xFF;
 
@@ -23,6 +27,7 @@ pub(super) const LAST: u8 = 0xFF;
 pub(super) struct Plan {
     pub(super) mode: u64,
     pub(super) rate: u8,
+    pub(super) display: Display,
     pub(super) gsi: [u8; 1024],
     pub(super) blocks: Vec<Block>,
     /// The TNB, if it is not the number of blocks.
@@ -40,8 +45,27 @@ pub(super) enum End {
 }
 
 impl Plan {
-    /// A good plan without blocks.
+    /// A good plan without blocks, of either kind.
     pub(super) fn new(dice: &mut Dice) -> Plan {
+        // With the samples of `open` two in five of all are open.
+        if dice.chance(36) {
+            Plan::open(dice)
+        } else {
+            Plan::of(dice, Display::Teletext)
+        }
+    }
+
+    /// A good plan of open subtitles on a screen of any size.
+    pub(super) fn open(dice: &mut Dice) -> Plan {
+        let rows = match dice.below(4) {
+            0 => dice.pick(&[1, 1, 2, 98, 99, 99]),
+            1 => dice.byte_between(1, 99),
+            _ => dice.pick(&[9, 10, 11, 12, 15, 20, 23, 24, 25]),
+        };
+        Plan::of(dice, Display::Open { rows })
+    }
+
+    pub(super) fn of(dice: &mut Dice, display: Display) -> Plan {
         let mode = dice.pick(&[1, 2]);
         let rate = dice.pick(&[25, 25, 30]);
         let mut gsi = [0x20; 1024];
@@ -50,9 +74,22 @@ impl Plan {
             dice.fill(&mut gsi);
         }
         gsi[3..=10].copy_from_slice(if rate == 25 { b"STL25.01" } else { b"STL30.01" });
-        gsi[11] = dice.pick(b"12");
         gsi[12..=13].copy_from_slice(b"00");
-        Plan { mode, rate, gsi, blocks: Vec::new(), count: None, end: End::Whole }
+        match display {
+            Display::Teletext => {
+                gsi[11] = dice.pick(b"12");
+                // MNR "is read with DSC "0" only".
+                if dice.chance(40) {
+                    let rows = dice.pick(&[b"23", b"23", b"00", b"01", b"99", b"1 ", b"xy"]);
+                    gsi[MNR..MNR + 2].copy_from_slice(rows);
+                }
+            }
+            Display::Open { rows } => {
+                gsi[11] = b'0';
+                gsi[MNR..MNR + 2].copy_from_slice(&two_digits(rows));
+            }
+        }
+        Plan { mode, rate, display, gsi, blocks: Vec::new(), count: None, end: End::Whole }
     }
 
     /// Puts the file together.

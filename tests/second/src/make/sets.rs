@@ -2,13 +2,14 @@
 
 use super::header::Header;
 use super::plan::{Block, Plan, CF, EBN, JC, LAST, SGN, SN, TCI, TCO, TEXT, USER_DATA, VP};
+use super::switches::SWITCHES;
 use crate::dice::Dice;
 
 /// Cuts a text into pieces of at most 112 bytes, one for each block.
 pub(super) fn pieces(dice: &mut Dice, text: &[u8]) -> Vec<Vec<u8>> {
     let mut pieces = Vec::new();
     let mut rest = text;
-    let manner = dice.below(10);
+    let manner = dice.below(12);
     while !rest.is_empty() || pieces.is_empty() {
         let longest = rest.len().min(112);
         let length = match manner {
@@ -24,12 +25,21 @@ pub(super) fn pieces(dice: &mut Dice, text: &[u8]) -> Vec<Vec<u8>> {
                 Some(end) => end + 1,
                 None => longest,
             },
+            // Before a switch, which takes at least one code, and after one.
+            4 => match rest[..longest].iter().skip(1).position(is_switch) {
+                Some(before) => before + 1,
+                None => longest,
+            },
+            5 => match rest[..longest].iter().position(is_switch) {
+                Some(switch) => switch + 1,
+                None => longest,
+            },
             _ => longest,
         };
         pieces.push(rest[..length].to_vec());
         rest = &rest[length..];
         // A set may have at most 241 blocks.
-        if pieces.len() == 200 {
+        if pieces.len() + rest.len() / 112 >= 200 {
             break;
         }
     }
@@ -45,6 +55,10 @@ pub(super) fn pieces(dice: &mut Dice, text: &[u8]) -> Vec<Vec<u8>> {
     pieces
 }
 
+fn is_switch(code: &u8) -> bool {
+    SWITCHES.contains(code)
+}
+
 /// The text field of a block: the piece, then 8Fh and what does not count.
 pub(super) fn text_field(dice: &mut Dice, piece: &[u8]) -> [u8; 112] {
     let mut field = [0x8F; 112];
@@ -52,8 +66,8 @@ pub(super) fn text_field(dice: &mut Dice, piece: &[u8]) -> [u8; 112] {
     if piece.len() < 111 {
         match dice.below(10) {
             0 => dice.fill(&mut field[piece.len() + 1..]),
-            1 => field[piece.len() + 1..].fill(dice.pick(&[b'x', 0x20, 0x8A, 0x0D, 0x7F])),
-            2 => field[111] = dice.pick(&[b'x', 0xC2, 0x00]),
+            1 => field[piece.len() + 1..].fill(dice.pick(&[b'x', 0x20, 0x8A, 0x0D, 0x7F, 0x80, 0x82])),
+            2 => field[111] = dice.pick(&[b'x', 0xC2, 0x00, 0x82]),
             _ => {}
         }
     }

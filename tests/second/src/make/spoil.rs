@@ -1,7 +1,7 @@
 //! Faults of the mode, the GSI and the headers: 1 to 12.
 
 use super::header::frame;
-use super::plan::{Block, End, Plan, CF, CS, EBN, JC, LAST, SGN, SN, TCI, TCO, VP};
+use super::plan::{Block, End, Plan, CF, CS, EBN, JC, LAST, MNR, SGN, SN, TCI, TCO, VP};
 use crate::assemble::{five_digits, time};
 use crate::dice::Dice;
 
@@ -31,14 +31,27 @@ pub(super) fn spoil(dice: &mut Dice, plan: &mut Plan, fault: u8) {
         3 => spoil_disk_format(dice, plan),
         4 => {
             let any = dice.byte();
-            plan.gsi[11] = dice.pick(&[b'0', b'3', b' ', 0x00, 0x01, 0x02, 0xB1, any]);
+            plan.gsi[11] = dice.pick(&[b'3', b'3', b' ', b'/', 0x00, 0x01, 0x02, 0xB0, 0xB1, any]);
+            // A file that says it is of the other kind.
+            if dice.chance(25) {
+                plan.gsi[11] = if plan.display.is_open() { dice.pick(b"12") } else { b'0' };
+            }
         }
         5 => {
             let any = [dice.byte(), dice.byte()];
             let table = dice.pick(&[*b"01", *b"10", *b"0 ", *b" 0", *b"04", *b"OO", [0, 0], any]);
             plan.gsi[12..=13].copy_from_slice(&table);
         }
-        6 => spoil_count(dice, plan),
+        6 => {
+            // MNR, too; in a teletext file that changes nothing.
+            let rows = dice.chance(if plan.display.is_open() { 60 } else { 15 });
+            if rows {
+                plan.gsi[MNR..MNR + 2].copy_from_slice(&any_rows(dice));
+            }
+            if !rows || dice.chance(20) {
+                spoil_count(dice, plan);
+            }
+        }
         7 => spoil_extension(dice, plan),
         _ => spoil_header(dice, plan, fault),
     }
@@ -106,6 +119,23 @@ pub(super) fn spoil_count(dice: &mut Dice, plan: &mut Plan) {
         count[dice.below(5)] = dice.byte();
     }
     plan.count = Some(count);
+}
+
+/// An MNR of two bytes, most often a bad one.
+pub(super) fn any_rows(dice: &mut Dice) -> [u8; 2] {
+    let any = [dice.byte(), dice.byte()];
+    let digit = dice.byte_between(b'0', b'9');
+    let bad = dice.pick(&[b' ', b'/', b':', b'A', b'-', b'+', 0x00, 0x01, 0xB1, any[0]]);
+    match dice.below(8) {
+        0 | 1 => *b"00",
+        2 => [digit, bad],
+        3 => [bad, digit],
+        4 => dice.pick(&[*b"1 ", *b" 1", *b"  ", *b"0 ", *b" 0", *b"0/", *b":0", *b"XX"]),
+        // The number in binary.
+        5 => dice.pick(&[[0, 1], [1, 0], [0, 99], [0, 0]]),
+        6 => any,
+        _ => dice.pick(&[*b"01", *b"09", *b"10", *b"90", *b"99"]),
+    }
 }
 
 /// Aims at 7: wrong EBN in all ways, disagreement, and open sets.
@@ -205,7 +235,9 @@ pub(super) fn spoil_header(dice: &mut Dice, plan: &mut Plan, fault: u8) {
         _ => {
             let any = dice.byte();
             if dice.chance(60) {
-                plan.blocks[place][VP] = dice.pick(&[0, 0, 24, 24, 25, 255, any]);
+                // On both sides of the screen; in open subtitles 0 is good.
+                let (before, end) = (plan.display.first().saturating_sub(1), plan.display.end());
+                plan.blocks[place][VP] = dice.pick(&[before, end, end, end, end + 1, 24, 255, any]);
             } else {
                 plan.blocks[place][JC] = dice.pick(&[4, 4, 5, 0x80, 255, any]);
             }

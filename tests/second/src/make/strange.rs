@@ -4,28 +4,34 @@ use super::header::good_header;
 use super::ordinary::subtitle_set;
 use super::plan::{Plan, EBN};
 use super::sets::{comment_blocks, pieces, set, user_block};
+use super::switches::{OPEN_SOUP, SWITCHES};
 use super::text::{any_pair, good_position, text_of_rows, SOUP};
 use crate::dice::Dice;
+use crate::display::Display;
 
 /// Short texts of codes that are picked with little care: every code, every
 /// accent with every letter, and many controls.
 pub(super) fn raw_text(dice: &mut Dice) -> Plan {
     let mut plan = Plan::new(dice);
     let header = good_header(dice, 1, plan.rate);
-    let text: Vec<u8> = match dice.below(8) {
+    let (soup, thin): (&[u8], &[u8]) = if plan.display.is_open() {
+        (OPEN_SOUP, b"\x80\x81\x82\x83 AB\x8A\x8A\x8A\xA0")
+    } else {
+        (SOUP, b"\x0D\x0D\x01\x07\x1D\x1C\x0B AB\x8A\x8A\x8A\xA0")
+    };
+    let text: Vec<u8> = match dice.below(9) {
         // One code of all 256.
         0 => vec![dice.byte()],
         1 => vec![b'x', dice.byte(), b'y'],
         // An accent with a letter.
-        2..=4 => any_pair(dice).to_vec(),
+        2..=5 => any_pair(dice).to_vec(),
         // Controls in any order.
-        5 => (0..dice.between(1, 12)).map(|_| dice.pick(SOUP)).collect(),
-        6 => (0..dice.between(1, 30))
-            .map(|_| dice.pick(b"\x0D\x0D\x01\x07\x1D\x1C\x0B AB\x8A\x8A\x8A\xA0"))
-            .collect(),
+        6 => (0..dice.between(1, 12)).map(|_| dice.pick(soup)).collect(),
+        7 => (0..dice.between(1, 30)).map(|_| dice.pick(thin)).collect(),
         _ => (0..dice.between(0, 4)).map(|_| dice.byte()).collect(),
     };
-    let position = dice.pick(&[1, 1, 10, 20, 22, 23]);
+    let end = plan.display.end();
+    let position = dice.pick(&[plan.display.first(), end / 2, end.saturating_sub(4), end - 1]);
     let pieces = pieces(dice, &text);
     let blocks = set(dice, &header, position, &pieces);
     plan.blocks.extend(blocks);
@@ -35,13 +41,19 @@ pub(super) fn raw_text(dice: &mut Dice) -> Plan {
 /// One set of 14 to 18 blocks, each full of text: the proved converter has less
 /// room for the text of a set in files of up to 16 blocks.
 pub(super) fn full(dice: &mut Dice) -> Plan {
-    let mut plan = Plan::new(dice);
+    let display = dice.pick(&[Display::Teletext, Display::Open { rows: 16 }, Display::Open { rows: 99 }]);
+    let mut plan = Plan::of(dice, display);
     let count = dice.between(14, 18);
     if dice.chance(10) {
         plan.blocks = comment_blocks(dice, 1, count);
     } else {
-        // Rows of 64 accents with letters, and a last one.
-        let row = [[0xC2, b'e'].repeat(64), vec![0x8A]].concat();
+        // Rows of 64 accents with letters, and a last one; in open subtitles
+        // also a switch before every cell.
+        let mut cell = [0xC2, b'e'];
+        if display.is_open() && dice.chance(50) {
+            cell = [dice.pick(SWITCHES), dice.pick(b"e ")];
+        }
+        let row = [cell.repeat(64), vec![0x8A]].concat();
         let mut text: Vec<u8> = row.into_iter().cycle().take(112 * count).collect();
         // No accent is cut off at the end.
         let last = text.len() - 1;
@@ -51,7 +63,7 @@ pub(super) fn full(dice: &mut Dice) -> Plan {
         }
         let header = good_header(dice, 1, plan.rate);
         let pieces: Vec<Vec<u8>> = text.chunks(112).map(<[u8]>::to_vec).collect();
-        let position = dice.pick(&[1, 2, 23]);
+        let position = dice.pick(&[display.first(), 1, 2, display.end() - 1]);
         plan.blocks = set(dice, &header, position, &pieces);
     }
     if dice.chance(30) {
@@ -69,10 +81,10 @@ pub(super) fn giant(dice: &mut Dice) -> Plan {
     let mut blocks = if dice.chance(25) {
         comment_blocks(dice, sn, 241)
     } else {
-        let rows = dice.between(1, 11);
-        let double = dice.chance(50);
-        let text = text_of_rows(dice, rows, double);
-        let position = good_position(dice, text.lines());
+        let rows = dice.between(1, 11.min(usize::from(plan.display.end())));
+        let double = !plan.display.is_open() && dice.chance(50);
+        let text = text_of_rows(dice, plan.display, rows, double);
+        let position = good_position(dice, plan.display, text.lines());
         let bytes = text.joined(plan.mode);
         let header = good_header(dice, sn, plan.rate);
         // The text in 241 pieces, most of them short.
@@ -115,7 +127,7 @@ pub(super) fn giant(dice: &mut Dice) -> Plan {
     }
     if dice.chance(50) {
         let sn = dice.pick(&[sn, sn + 1, sn + 1, sn + 1]);
-        let after = subtitle_set(dice, sn, plan.mode, plan.rate, &[]);
+        let after = subtitle_set(dice, sn, &plan, &[]);
         plan.blocks.extend(after);
     }
     plan

@@ -1,7 +1,9 @@
 //! Texts of good sets, and fragments that are refused.
 
+use super::switches::open_row;
 use crate::characters::composed;
 use crate::dice::Dice;
+use crate::display::Display;
 
 /// Codes that are characters, those which the table leaves empty and the
 /// accents left out.
@@ -35,19 +37,26 @@ pub(super) fn any_pair(dice: &mut Dice) -> [u8; 2] {
 
 /// Fragments of text that are refused with 13, unless chance puts an accent
 /// before them or a letter after them.
-pub(super) fn bad_fragment(dice: &mut Dice) -> Vec<u8> {
+pub(super) fn bad_fragment(dice: &mut Dice, display: Display) -> Vec<u8> {
     let listed = dice.pick(&[0xC1, 0xC2, 0xC3, 0xC4, 0xC5, 0xC6, 0xC7, 0xC8, 0xCA, 0xCB, 0xCD, 0xCE, 0xCF]);
     let letter = dice.byte_between(b'a', b'z');
-    match dice.below(12) {
+    let open = display.is_open();
+    match dice.below(13) {
+        // The codes of teletext in open subtitles, the switches in teletext.
+        0 if open => vec![dice.byte_between(0x00, 0x1F)],
+        1 if open => vec![dice.pick(b"\x00\x01\x07\x0A\x0B\x0D\x1C\x1D")],
+        2 if !open => vec![dice.byte_between(0x80, 0x83)],
         0 => vec![dice.pick(&[0x08, 0x09, 0x0C, 0x0E, 0x0F, 0x1B, 0x1E, 0x1F])],
         1 => vec![dice.byte_between(0x0E, 0x1B)],
-        2 => vec![dice.pick(&[0x7F, 0x80, 0x81, 0x84, 0x85, 0x89, 0x8B, 0x8E, 0x90, 0x9F])],
-        3 => vec![dice.byte_between(0x90, 0x9F)],
+        2 | 3 => vec![dice.pick(&[0x7F, 0x84, 0x84, 0x85, 0x85, 0x86, 0x89, 0x8B, 0x8E, 0x90, 0x9F])],
+        12 => vec![dice.byte_between(0x90, 0x9F)],
         4 => vec![dice.pick(&[0xA6, 0xA8, 0xC0, 0xD8, 0xD9, 0xDA, 0xDB, 0xE5])],
         5 => vec![dice.pick(&[0xC9, 0xCC]), letter],
-        6 => vec![listed, dice.pick(&[0x20, 0x07, 0x0D, 0x1D, 0x8A, 0xA0, 0x40, 0x5B, 0x60, 0x7B])],
+        6 => {
+            vec![listed, dice.pick(&[0x20, 0x07, 0x0D, 0x1D, 0x80, 0x83, 0x8A, 0xA0, 0x40, 0x5B, 0x60, 0x7B])]
+        }
         7 => vec![listed, listed, letter],
-        8 => vec![listed, dice.pick(&[0x01, 0x8A, 0xC2]), letter],
+        8 => vec![listed, dice.pick(&[0x01, 0x80, 0x81, 0x82, 0x83, 0x8A, 0xC2]), letter],
         9 => vec![0xCD, dice.pick(b"aeicxq")],
         10 => vec![dice.pick(&[0xC1, 0xC2, 0xC6, 0xCA, 0xCB, 0xCE]), dice.pick(b"bjqxQJB")],
         _ => vec![listed, dice.pick(b"0139,./")],
@@ -62,7 +71,7 @@ pub(super) const SOUP: &[u8] =
 pub(super) const THIN_SOUP: &[u8] = b"\x01\x01\x07\x07\x1D\x1C  AB\xA0\x0B";
 
 /// A row of at most 60 cells, which leaves room for what is put in later.
-pub(super) fn good_row(dice: &mut Dice) -> Vec<u8> {
+pub(super) fn good_row(dice: &mut Dice, display: Display) -> Vec<u8> {
     let length = match dice.below(40) {
         0 => 0,
         1..=2 => 60,
@@ -70,11 +79,18 @@ pub(super) fn good_row(dice: &mut Dice) -> Vec<u8> {
         8..=12 => dice.between(0, 3),
         _ => dice.between(2, 14),
     };
-    row_of(dice, length)
+    row_of(dice, display, length)
 }
 
 /// A row of exactly so many cells.
-pub(super) fn row_of(dice: &mut Dice, length: usize) -> Vec<u8> {
+pub(super) fn row_of(dice: &mut Dice, display: Display, length: usize) -> Vec<u8> {
+    match display {
+        Display::Teletext => teletext_row(dice, length),
+        Display::Open { .. } => open_row(dice, length),
+    }
+}
+
+fn teletext_row(dice: &mut Dice, length: usize) -> Vec<u8> {
     let flavour = dice.below(8);
     let mut row = Vec::with_capacity(length + 8);
     for cell in 0..length {
@@ -122,9 +138,10 @@ impl Text {
     }
 }
 
-pub(super) fn good_text(dice: &mut Dice) -> Text {
-    let double = dice.chance(50);
-    let most = if double { 11 } else { 23 };
+pub(super) fn good_text(dice: &mut Dice, display: Display) -> Text {
+    let double = !display.is_open() && dice.chance(50);
+    let lines = usize::from(display.end() - display.first());
+    let most = lines / if double { 2 } else { 1 };
     let rows = match dice.below(60) {
         0 => most,
         1 | 2 => dice.between(1, most),
@@ -132,16 +149,16 @@ pub(super) fn good_text(dice: &mut Dice) -> Text {
         11..=25 => 2,
         _ => 1,
     };
-    text_of_rows(dice, rows, double)
+    text_of_rows(dice, display, rows.min(most), double)
 }
 
-pub(super) fn text_of_rows(dice: &mut Dice, count: usize, double: bool) -> Text {
-    let mut rows: Vec<Vec<u8>> = (0..count).map(|_| good_row(dice)).collect();
+pub(super) fn text_of_rows(dice: &mut Dice, display: Display, count: usize, double: bool) -> Text {
+    let mut rows: Vec<Vec<u8>> = (0..count).map(|_| good_row(dice, display)).collect();
     for row in rows.iter_mut() {
         // Rows of exactly 63 and 64 cells, controls included.
         if dice.chance(2) {
             let length = dice.pick(&[63, 64]);
-            *row = row_of(dice, length - usize::from(double));
+            *row = row_of(dice, display, length - usize::from(double));
         }
     }
     if double {
@@ -160,13 +177,14 @@ pub(super) fn text_of_rows(dice: &mut Dice, count: usize, double: bool) -> Text 
 }
 
 /// The highest VP at which the text fits, or a lower one.
-pub(super) fn good_position(dice: &mut Dice, lines: usize) -> u8 {
-    let highest = 24 - lines;
+pub(super) fn good_position(dice: &mut Dice, display: Display, lines: usize) -> u8 {
+    let first = usize::from(display.first());
+    let highest = usize::from(display.end()) - lines;
     let position = match dice.below(4) {
         0 => highest,
-        1 => dice.between(1, highest),
-        2 => dice.pick(&[1, 2, 20, 22]).min(highest),
-        _ => dice.between(highest.saturating_sub(4).max(1), highest),
+        1 => dice.between(first, highest),
+        2 => dice.pick(&[first, first + 1, 20, 22]).min(highest),
+        _ => dice.between(highest.saturating_sub(4).max(first), highest),
     };
     position as u8
 }

@@ -1,14 +1,10 @@
 -- `Look::pack` gives the packed number.
 -- Assumes nothing.
-use native.Mathlib.Omega.{arith}
-use Rattle.meaning.specs.Looks.{pack}
 use borrow.Author.Needs.{needs}
+use Rattle.meaning.specs.Looks.{pack}
 use Rattle.meaning.proofs.Look.pack.Statement.{statement}
 use Rattle.meaning.proofs.Look.pack.Tie as tie
 
 pub pack-spec : {M : Type 1} → statement M
 unfolding pack
-pack-spec =
-    tie.close (tie.spec (λ c. search needs) (λ c. search needs) (λ c. search needs) (λ c. search needs) (λ c. search needs)
-    (λ c. rw (c .if1 .taken) (omega arith))
-    (λ c. rw (c .if1 .left) (omega arith)))
+pack-spec = tie.close (tie.spec (λ c. search needs) (λ c. search needs) (λ c. search needs) (λ c. search needs) (λ c. search needs) (λ c. search needs) (λ c. search needs) (λ c. search needs) (λ c. search needs) (λ c. search needs) (λ c. search needs) (λ c. search needs) (λ c. search needs) (λ c. search needs))

@@ -7,4 +7,4 @@ use Rattle.rows.proofs.TextFacts.with_row.Tie as tie
 
 pub with-row-spec : {M : Type 1} → statement M
 unfolding withRow
-with-row-spec = tie.close (tie.spec (λ c. search needs) (λ c κs. search needs) (λ c. rw (c .capped-sum .ensures)))
+with-row-spec = tie.close (tie.spec (λ c. search needs) (λ c κs. search needs) (λ c. search needs) (λ c. rw (c .capped-sum .ensures)))

@@ -8,4 +8,4 @@ use Rattle.spans.proofs.joining.is_blank.Tie as tie
 
 pub is-blank-spec : {M : Type 1} → statement M
 unfolding isBlank packedCell
-is-blank-spec = tie.close (tie.spec (λ c. search needs))
+is-blank-spec = tie.close (tie.spec (λ c κs. search needs) (λ c. rw (c .before .unpack .ensures)))

@@ -9,14 +9,13 @@ use Rattle.spans.proofs.joining.is_joining.Tie as tie
 returns : tie.Need-returns
 unfolding joins packedCell
 returns c =
-    let b = c .before .before .before in
-    let u = b .before .before .before in
+    let g = c .before in
+    let b = g .before in
+    let u = b .before .before in
     rw (
-      c .before .free2 .ensures,
-      c .before .before .free .ensures,
+      g .agrees .ensures,
       b .is-blank .ensures,
-      b .before .shared2 .ensures,
-      b .before .before .shared .ensures,
+      b .before .shares .ensures,
       u .unpack3 .ensures,
       u .before .unpack2 .ensures,
       u .before .before .unpack .ensures,
@@ -25,4 +24,4 @@ returns c =
 pub is-joining-spec : {M : Type 1} → statement M
 is-joining-spec =
     tie.close (tie.spec (λ c κs. search needs) (λ c κs. search needs) (λ c κs. search needs) (λ c κs. search needs) (λ c κs. search needs)
-    (λ c κs. search needs) (λ c κs. search needs) (λ c κs. search needs) returns)
+    (λ c κs. search needs) returns)

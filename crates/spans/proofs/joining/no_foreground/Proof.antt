@@ -1,4 +1,4 @@
--- `no_foreground` starts with white on black.
+-- `no_foreground` starts white and upright.
 -- Assumes nothing.
 use borrow.Author.Needs.{needs}
 use Rattle.meaning.specs.Looks.{whiteOnBlack}
