@@ -8,11 +8,11 @@ use mathlib.Core.List.{List, [], _∷_, _++_, map, map-append}
 use lib.ListN.{length, take, drop, replicate, length-map, length-append, length-take, length-drop}
 use Rattle.meaning.specs.declared.Token.{Token}
 use Rattle.meaning.specs.declared.Token.the-variants.{Character}
-use Rattle.meaning.specs.declared.Pen.{Pen}
+use Rattle.meaning.specs.declared.Look.{Look}
 use Rattle.meaning.specs.Codes.{isRowEnd, takesCell}
 use Rattle.meaning.specs.Rows.{breaksPaired, firstRow}
 use Rattle.meaning.specs.Looks.{lookCount, pack, unpack}
-use Rattle.meaning.specs.Cells.{Cell, cellCharacter, lookHere, lookNext, cellOf, penAfter, cellsOf, cellsFrom, penEnd, rowStart, cellRows}
+use Rattle.meaning.specs.Cells.{Cell, Pen, cellCharacter, lookHere, lookNext, cellOf, penAfter, cellsOf, cellsFrom, penEnd, rowStart, cellRows}
 use Rattle.meaning.proofs.Logic.{by-test}
 use Rattle.meaning.proofs.ListLaws.{All}
 use Rattle.meaning.proofs.ListLaws.All.{cons}
@@ -36,11 +36,11 @@ first-of : {A : Type 0} {P : A → Type 0} {x : A} {xs : List A} → All P (x �
 first-of (cons p h) = p
 
 -- the cells of a row have looks of three bits each
-pub row-sound : (text : List ℕ) (start : ℕ) (pen : Pen) → All Sound (rowAt text start pen)
+pub row-sound : (text : List ℕ) (start : ℕ) (before : Look) → All Sound (rowAt text start before)
 unfolding rowAt cellRows
-row-sound text start pen =
+row-sound text start before =
     let ts = tokensFrom text start in
-    first-of (rw (rows-first (breaksPaired 1 ts) ts) at (rows-sound 1 pen (drop start text)))
+    first-of (rw (rows-first (breaksPaired 1 ts) ts) at (rows-sound 1 before (drop start text)))
 
 pub cells-one : (t : Token) (pen : Pen) → length (cellsOf t pen) ≤ 1
 unfolding cellsOf
@@ -66,14 +66,14 @@ module _ (t : Token) (pen : ℕ) where
   unfolding penAfter
   next-pen = λ i. record { look = unpack-pack _ (next-bits t (unpack pen) (unpack-bits pen)) i }
 
-module _ (row : List Token) (pen : ℕ) where
-  start-small : packedPen (rowStart row (penOf pen)) < lookCount
+module _ (row : List Token) (before : ℕ) where
+  start-small : packedPen (rowStart row (unpack before)) < lookCount
   unfolding rowStart
-  start-small = pack-small _ (start-bits (unpack pen))
+  start-small = pack-small _ (start-bits (unpack before))
 
-  start-pen : penOf (packedPen (rowStart row (penOf pen))) ≡ rowStart row (penOf pen)
+  start-pen : penOf (packedPen (rowStart row (unpack before))) ≡ rowStart row (unpack before)
   unfolding rowStart
-  start-pen = λ i. record { look = unpack-pack _ (start-bits (unpack pen)) i }
+  start-pen = λ i. record { look = unpack-pack _ (start-bits (unpack before)) i }
 
 -- characters leave the pen as it is
 run-from : (pen : Pen) (cs : List ℕ) (ts : List Token) → cellsFrom pen (map Character cs ++ ts) ≡ runCells pen cs ++ cellsFrom pen ts
@@ -128,7 +128,7 @@ pub record Ahead (text : List ℕ) (start first : ℕ) (characters₀ looks₀ c
   pub small : pen < lookCount
 
 pub ahead-all :
-    (text : List ℕ) (start before : ℕ) {first : ℕ} (characters looks : List ℕ) → first ≡ packedPen (rowStart (firstRow (tokensFrom text start)) (penOf before))
+    (text : List ℕ) (start before : ℕ) {first : ℕ} (characters looks : List ℕ) → first ≡ packedPen (rowStart (firstRow (tokensFrom text start)) (unpack before))
     → Ahead text start first characters looks characters looks first start 0
 ahead-all text start before characters looks e =
     record {
@@ -142,10 +142,10 @@ ahead-all text start before characters looks e =
 
 -- no cell is left
 decoded : {text : List ℕ} {start before first : ℕ} {characters₀ looks₀ characters looks : List ℕ} {r : RowRead}
-    → first ≡ packedPen (rowStart (firstRow (tokensFrom text start)) (penOf before))
+    → first ≡ packedPen (rowStart (firstRow (tokensFrom text start)) (unpack before))
     → Left characters₀ looks₀ (cellsFrom (penOf first) (firstRow (tokensFrom text start))) characters looks (r .cells) []
     → r .ended ≡ isEnded (tokensFrom text start) → r .next ≡ afterRowAt text start
-    → r .pen < lookCount → penOf (r .pen) ≡ penEnd (penOf first) (firstRow (tokensFrom text start))
+    → r .look < lookCount → penOf (r .look) ≡ penEnd (penOf first) (firstRow (tokensFrom text start))
     → Decoded text start before characters₀ looks₀ characters looks r
 unfolding rowAt stored
 decoded {text} {start} {before} {characters = characters} {looks} {r} e l ended next small after =
@@ -156,7 +156,7 @@ decoded {text} {start} {before} {characters = characters} {looks} {r} e l ended 
       count = omega (arith, k .count);
       ended = ended;
       next = next;
-      after = sym (pack-unpack (r .pen) small) ∙ ap packedPen (rw s at after);
+      after = sym (pack-unpack (r .look) small) ∙ ap packedPen (rw s at after);
     }
 
 module _
@@ -182,8 +182,8 @@ module _
           small = rw h (next-small (r .token) pen);
         }
 
-    pub ahead-row-end : isRowEnd (r .token) ≡ true → {before : ℕ} → first ≡ packedPen (rowStart (firstRow (tokensFrom text start)) (penOf before))
-        → Decoded text start before characters₀ looks₀ characters looks (record { cells = n; ended = true; next = r .next; pen = pen })
+    pub ahead-row-end : isRowEnd (r .token) ≡ true → {before : ℕ} → first ≡ packedPen (rowStart (firstRow (tokensFrom text start)) (unpack before))
+        → Decoded text start before characters₀ looks₀ characters looks (record { cells = n; ended = true; next = r .next; look = pen })
     unfolding cellsFrom penEnd
     ahead-row-end e h =
         let ts = tokensFrom text (r .next) in
@@ -213,8 +213,8 @@ module _
       }
 
   -- at the text's end
-  pub ahead-text-end : length text ≤ i → {before : ℕ} → first ≡ packedPen (rowStart (firstRow (tokensFrom text start)) (penOf before))
-      → Decoded text start before characters₀ looks₀ characters looks (record { cells = n; ended = false; next = i; pen = pen })
+  pub ahead-text-end : length text ≤ i → {before : ℕ} → first ≡ packedPen (rowStart (firstRow (tokensFrom text start)) (unpack before))
+      → Decoded text start before characters₀ looks₀ characters looks (record { cells = n; ended = false; next = i; look = pen })
   unfolding cellsFrom penEnd
   ahead-text-end h e =
       let t = tokens-end text i h in

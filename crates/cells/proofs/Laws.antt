@@ -5,16 +5,15 @@ use native.Mathlib.Omega.{arith}
 use mathlib.Core.Path.{_≡_, ap, _∙_}
 use mathlib.Core.List.{List, [], _∷_}
 use lib.ListN.{length, take}
-use Rattle.meaning.specs.declared.Pen.{Pen}
 use Rattle.meaning.specs.declared.Token.{Token}
 use Rattle.meaning.specs.Looks.{unpack}
 use Rattle.meaning.specs.Rows.{firstRow}
-use Rattle.meaning.specs.Cells.{penAfter, penEnd, rowStart, penAfterRow}
+use Rattle.meaning.specs.Cells.{Pen, penAfter, penEnd, rowStart, lookAfterRow}
 use Rattle.meaning.proofs.LookLaws.{ThreeBits, start-bits, unpack-pack}
 use Rattle.laws.proofs.CellFacts.{next-bits}
 use Rattle.output.proofs.Laws.{length-stored}
 use Rattle.cells.specs.declared.RowRead.{RowRead}
-use Rattle.cells.specs.Arrays.{character, packedLook, places, penOf, cellsAt}
+use Rattle.cells.specs.Arrays.{character, packedLook, places, cellsAt}
 use Rattle.cells.specs.Decoded.{tokensFrom, rowAt, Decoded}
 use Rattle.cells.proofs.Decoding.{row-sound}
 use Rattle.cells.proofs.ReadBack.{read-back}
@@ -25,14 +24,14 @@ end-bits p [] h = h
 end-bits p (t ∷ ts) h = end-bits (penAfter t p) ts (next-bits t (p .look) h)
 
 module _
-    {text : List ℕ} {start pen : ℕ} {characters looks characters′ looks′ : List ℕ} {r : RowRead}
-    (d : Decoded text start pen characters looks characters′ looks′ r) where
+    {text : List ℕ} {start before : ℕ} {characters looks characters′ looks′ : List ℕ} {r : RowRead}
+    (d : Decoded text start before characters looks characters′ looks′ r) where
   -- the first cells of a row that was decoded, as many as the arrays have places for
   pub decoded-cells : (n : ℕ) → n ≤ r .cells → n ≤ length characters → n ≤ length looks
-      → cellsAt characters′ looks′ 0 n ≡ take n (rowAt text start (penOf pen))
+      → cellsAt characters′ looks′ 0 n ≡ take n (rowAt text start (unpack before))
   decoded-cells n h p q =
       rw (d .held .0, d .held .1)
-      (read-back n (places characters looks - 0) (rowAt text start (penOf pen)) characters looks 0 (row-sound text start (penOf pen)) (omega (arith, d .count)) (omega arith) (omega arith) (omega arith))
+      (read-back n (places characters looks - 0) (rowAt text start (unpack before)) characters looks 0 (row-sound text start (unpack before)) (omega (arith, d .count)) (omega arith) (omega arith) (omega arith))
 
   pub decoded-lengths : (length characters′ ≡ length characters) × (length looks′ ≡ length looks)
   decoded-lengths = (
@@ -40,9 +39,9 @@ module _
     rw (d .held .1) (length-stored looks 0 _),
   )
 
-  -- the pen after the row
-  pub decoded-pen : penOf (r .pen) ≡ penAfterRow (penOf pen) (firstRow (tokensFrom text start))
+  -- the look after the row
+  pub decoded-look : unpack (r .look) ≡ lookAfterRow (unpack before) (firstRow (tokensFrom text start))
   unfolding rowStart
-  decoded-pen =
+  decoded-look =
       let row = firstRow (tokensFrom text start) in
-      ap penOf (d .after) ∙ λ i. record { look = unpack-pack _ (end-bits (rowStart row (penOf pen)) row (start-bits (unpack pen))) i }
+      ap unpack (d .after) ∙ unpack-pack _ (end-bits (rowStart row (unpack before)) row (start-bits (unpack before)))

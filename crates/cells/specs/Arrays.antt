@@ -5,9 +5,8 @@ use mathlib.Core.Path.{_≡_}
 use mathlib.Core.List.{List, [], _∷_}
 use lib.ListN.{length, getD, take}
 use Rattle.meaning.specs.Looks.{pack, unpack}
-use Rattle.meaning.specs.declared.Pen.{Pen}
 use Rattle.output.specs.Output.{stored}
-use Rattle.meaning.specs.Cells.{Cell}
+use Rattle.meaning.specs.Cells.{Cell, Pen}
 
 -- what is kept of a cell
 unfoldable pub character : Cell → ℕ

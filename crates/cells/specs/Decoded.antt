@@ -7,20 +7,21 @@ use lib.ListN.{length, drop}
 use Rattle.meaning.specs.declared.Token.{Token}
 use Rattle.meaning.specs.Codes.{tokens}
 use Rattle.meaning.specs.declared.Token.the-variants.{Character}
-use Rattle.meaning.specs.declared.Pen.{Pen}
-use Rattle.meaning.specs.Cells.{Cell, cellOf, cellsOfRow, penAfterRow}
+use Rattle.meaning.specs.declared.Look.{Look}
+use Rattle.meaning.specs.Looks.{pack, unpack}
+use Rattle.meaning.specs.Cells.{Cell, Pen, cellOf, cellsOfRow, lookAfterRow}
 use Rattle.charset.specs.Reading.{afterRowAt}
 use Rattle.meaning.specs.Rows.{firstRow}
 use Rattle.rows.specs.Scanned.{isEnded}
 use Rattle.cells.specs.declared.RowRead.{RowRead}
-use Rattle.cells.specs.Arrays.{character, packedLook, CellsStored, penOf, packedPen}
+use Rattle.cells.specs.Arrays.{character, packedLook, CellsStored}
 
 abbrev pub tokensFrom : List ℕ → ℕ → List Token
 tokensFrom text i = tokens (drop i text)
 
 -- the cells of the row that starts at a position of a text
-unfoldable pub rowAt : List ℕ → ℕ → Pen → List Cell
-rowAt text start pen = cellsOfRow pen (firstRow (tokensFrom text start))
+unfoldable pub rowAt : List ℕ → ℕ → Look → List Cell
+rowAt text start before = cellsOfRow before (firstRow (tokensFrom text start))
 
 -- the cells of a run of plain codes
 unfoldable pub runCell : Pen → ℕ → Cell
@@ -31,9 +32,9 @@ runCells pen cs = map (runCell pen) cs
 
 -- the arrays at entry and at exit, and the result
 pub record Decoded
-    (text : List ℕ) (start pen : ℕ) (characters looks characters′ looks′ : List ℕ) (r : RowRead) : Type 0 where
-  pub held : CellsStored characters looks 0 (map character (rowAt text start (penOf pen))) (map packedLook (rowAt text start (penOf pen))) characters′ looks′
-  pub count : r .cells ≡ length (rowAt text start (penOf pen))
+    (text : List ℕ) (start before : ℕ) (characters looks characters′ looks′ : List ℕ) (r : RowRead) : Type 0 where
+  pub held : CellsStored characters looks 0 (map character (rowAt text start (unpack before))) (map packedLook (rowAt text start (unpack before))) characters′ looks′
+  pub count : r .cells ≡ length (rowAt text start (unpack before))
   pub ended : r .ended ≡ isEnded (tokensFrom text start)
   pub next : r .next ≡ afterRowAt text start
-  pub after : r .pen ≡ packedPen (penAfterRow (penOf pen) (firstRow (tokensFrom text start)))
+  pub after : r .look ≡ pack (lookAfterRow (unpack before) (firstRow (tokensFrom text start)))

@@ -2,12 +2,9 @@
 
 ghost use mathlib.Core.Path.{_≡_};
 ghost use Prim.Native.Nat.{_<_};
-ghost use lib.ListN.{drop};
-ghost use Rattle.meaning.specs.Looks.{lookCount, withBackground, withColour, pack, unpack};
-ghost use Rattle.meaning.specs.Codes.{tokens, takesCell};
-ghost use Rattle.meaning.specs.Cells.{cellCharacter, controlHere, controlNext, switched, lookHere, lookNext, rowStart};
-ghost use Rattle.meaning.specs.Rows.{firstRow};
-ghost use Rattle.cells.specs.Arrays.{penOf};
+ghost use Rattle.meaning.specs.Looks.{lookCount, withBackground, withColour, startLook, pack, unpack};
+ghost use Rattle.meaning.specs.Codes.{takesCell};
+ghost use Rattle.meaning.specs.Cells.{cellCharacter, controlHere, controlNext, switched, lookHere, lookNext};
 use crate::BLANK;
 use meaning::Look;
 use meaning::Token;
@@ -114,12 +111,11 @@ pub(crate) fn look_next(token: Token, pen: u16) -> u16
     }
 }
 
-// The pen at the start of the row that starts at a position: white on black; height, italics and underline hold on. The
-// row's codes make no difference.
-pub(crate) fn row_start(text: &[u8], start: usize, pen: u16) -> u16
-    ensures { λ r. ⌜ r ≡ pack (rowStart (firstRow (tokens (drop start (now (text .entry))))) (penOf pen) .look) ⌝ }
+// The look at the start of a row, from the look before it.
+pub(crate) fn row_start(before: u16) -> u16
+    ensures { λ r. ⌜ r ≡ pack (startLook (unpack before)) ⌝ }
 {
-    let mut first = Look::unpack(pen);
+    let mut first = Look::unpack(before);
     first.background = Look::BLACK;
     first.colour = Look::WHITE;
     first.pack()

@@ -17,13 +17,13 @@ mod drawing;
 // The character of a blank cell: 20h, and every control.
 pub const BLANK: u16 = 32;
 
-// A row that was read: how many cells it has, whether a row end follows it, the position after that, and the pen after the
+// A row that was read: how many cells it has, whether a row end follows it, the position after that, and the look after the
 // row, packed.
 pub struct RowRead {
     pub cells: usize,
     pub ended: bool,
     pub next: usize,
-    pub pen: u16,
+    pub look: u16,
 }
 
 pub fn least(a: usize, b: usize) -> usize
@@ -91,7 +91,7 @@ fn put_run(
     k + n
 }
 
-// The cells of the row that starts at a position, from the pen before it. Those that the arrays have no place for are
+// The cells of the row that starts at a position, from the look before it. Those that the arrays have no place for are
 // counted all the same. Most codes are plain, so the run of them after a token is stored at once.
 pub fn decode_row(
     text: &[u8],
@@ -102,7 +102,7 @@ pub fn decode_row(
 ) -> RowRead
     ensures { λ r. ⌜ Decoded (now (text .entry)) start before (now (characters .entry)) (now (looks .entry)) (now (characters .exit)) (now (looks .exit)) r ⌝ }
 {
-    let mut pen = drawing::row_start(text, start, before);
+    let mut pen = drawing::row_start(before);
     let mut i = start;
     let mut n = 0;
     while i < text.len() {
@@ -113,7 +113,7 @@ pub fn decode_row(
                 cells: n,
                 ended: true,
                 next: reading.next,
-                pen,
+                look: pen,
             };
         }
         n = put_cell(characters, looks, n, token, pen);
@@ -126,6 +126,6 @@ pub fn decode_row(
         cells: n,
         ended: false,
         next: i,
-        pen,
+        look: pen,
     }
 }

@@ -9,14 +9,14 @@ use mathlib.Core.List.{List, [], _∷_, _++_, map, flatMap}
 use lib.Dec.{eqb, ltb}
 use lib.ListN.{length, replicate, length-append, length-map, length-take, length-replicate}
 use borrow.Author.Tests.{leb-true}
-use Rattle.meaning.specs.declared.Pen.{Pen}
 use Rattle.meaning.specs.declared.Token.{Token}
 use Rattle.meaning.specs.Lists.{all, keep, joined, upFrom, bytes, field}
-use Rattle.meaning.specs.Looks.{lookCount, pack, unpack}
+use Rattle.meaning.specs.declared.Look.{Look}
+use Rattle.meaning.specs.Looks.{lookCount, whiteOnBlack, pack, unpack}
 use Rattle.meaning.specs.Refusals.{isGood}
 use Rattle.meaning.specs.Codes.{tokens, takesCell}
 use Rattle.meaning.specs.Rows.{isDouble, rows, linesOf, rowCount, rowLimit, isShort, rowsFit, textRule}
-use Rattle.meaning.specs.Cells.{Cell, points, newPen, penAfter, cellsOf, cellsFrom, rowStart, cellsOfRow, penAfterRow, cellRows, shown}
+use Rattle.meaning.specs.Cells.{Cell, Pen, points, penAfter, cellsOf, cellsFrom, rowStart, cellsOfRow, lookAfterRow, cellRows, shown}
 use Rattle.meaning.specs.Spans.{lookOf, uniform, spansFrom, spans}
 use Rattle.meaning.specs.Gsi.{formatOf, blockCount, isDigit, valueFrom, numberIn, tnb, mnr, isTeletext, screenOf, fileRule}
 use Rattle.meaning.specs.declared.Time.{Time}
@@ -157,29 +157,29 @@ unfolding spans flatMap
 spans-size [] = omega arith
 spans-size (c ∷ cs) = omega (arith, from-bound (c ∷ []) cs)
 
-row-bound : (p : Pen) (r : List Token) → isShort r ≡ true → size (map span (rowSpans (cellsOfRow p r))) ≤ 2368
+row-bound : (l : Look) (r : List Token) → isShort r ≡ true → size (map span (rowSpans (cellsOfRow l r))) ≤ 2368
 unfolding isShort rowSpans
-row-bound p r e =
-    let cs = cellsOfRow p r in
+row-bound l r e =
+    let cs = cellsOfRow l r in
     omega (
       arith,
       leb-true (length (keep takesCell r)) rowLimit e,
-      cells-length (rowStart r p) r,
+      cells-length (rowStart r l) r,
       shown-bound cs,
       spans-size (shown cs),
     )
 
 -- the rows of a subtitle, each with a tt:br
-later-bound : (p : Pen) (rs : List (List Token)) → all isShort rs ≡ true → size (laterRows (cellRows p rs)) ≤ 2376 * length rs
+later-bound : (l : Look) (rs : List (List Token)) → all isShort rs ≡ true → size (laterRows (cellRows l rs)) ≤ 2376 * length rs
 unfolding cellRows laterRows flatMap writePiece bytes
-later-bound p [] e = omega arith
-later-bound p (r ∷ rs) e =
+later-bound l [] e = omega arith
+later-bound l (r ∷ rs) e =
     let s = test-split isShort r rs e in
     omega (
       arith,
-      size-append (map span (rowSpans (cellsOfRow p r))) (laterRows (cellRows (penAfterRow p r) rs)),
-      row-bound p r (s .0),
-      later-bound (penAfterRow p r) rs (s .1),
+      size-append (map span (rowSpans (cellsOfRow l r))) (laterRows (cellRows (lookAfterRow l r) rs)),
+      row-bound l r (s .0),
+      later-bound (lookAfterRow l r) rs (s .1),
     )
 
 rows-later : (rs : List (List Cell)) → size (rowPieces rs) ≤ size (laterRows rs)
@@ -237,7 +237,7 @@ pieces-bound f first ts place e h =
       fit,
       size-append (rowPieces (s .rows)) (replicate (fillersOf f s) br),
       rows-later (s .rows),
-      later-bound (newPen (isDouble ts)) (rows (f .mode) ts) (fit .0),
+      later-bound (whiteOnBlack (isDouble ts)) (rows (f .mode) ts) (fit .0),
       fillers-bound (fillersOf f s),
       lines-least (isDouble ts) (length (rows (f .mode) ts)),
     ))

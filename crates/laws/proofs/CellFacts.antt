@@ -11,13 +11,12 @@ use borrow.Author.Tests.{ltb-true}
 use Rattle.meaning.specs.declared.Token.{Token}
 use Rattle.meaning.specs.declared.Token.the-variants.{Character, Control, Switch, RowEnd, Unlisted}
 use Rattle.meaning.specs.declared.Look.{Look}
-use Rattle.meaning.specs.declared.Pen.{Pen}
 use Rattle.meaning.specs.Lists.{all}
 use Rattle.meaning.specs.Tables.{latinTable, composedTable}
 use Rattle.meaning.specs.Characters.{latin, accent, letter, composed}
 use Rattle.meaning.specs.Codes.{isControl, isSwitch, characterOf, codeToken, pairToken, isAccent, tokens, takesCell}
 use Rattle.meaning.specs.Rows.{breaksPaired, rows}
-use Rattle.meaning.specs.Cells.{Cell, points, glyphs, cellCharacter, controlHere, controlNext, switched, lookHere, lookNext, cellOf, penAfter, cellsOf, cellsFrom, penEnd, rowStart, penAfterRow, cellRows, isBlank}
+use Rattle.meaning.specs.Cells.{Cell, Pen, points, glyphs, cellCharacter, controlHere, controlNext, switched, lookHere, lookNext, cellOf, penAfter, cellsOf, cellsFrom, penEnd, rowStart, lookAfterRow, cellRows, isBlank}
 use Rattle.meaning.specs.Spans.{foregroundOf, lookOf, uniform, spansFrom, spans}
 use Rattle.meaning.specs.Profile.{isScalar}
 use Rattle.meaning.proofs.Logic.{by-test}
@@ -33,7 +32,7 @@ pub record Keeping (token : Token → Bool) (Before Within : Look → Type 0) (O
   pub ends : token RowEnd ≡ true
   pub cell : (t : Token) (p : Pen) → token t ≡ true → Within (p .look) → Of (cellOf t p)
   pub next : (t : Token) (l : Look) → token t ≡ true → Within l → Within (lookNext t l)
-  pub start : (row : List Token) (p : Pen) → Before (p .look) → Within (rowStart row p .look)
+  pub start : (row : List Token) (l : Look) → Before l → Within (rowStart row l .look)
   pub left : (l : Look) → Within l → Before l
 
 module _ {token : Token → Bool} {Before Within : Look → Type 0} {Of : Cell → Type 0} (k : Keeping token Before Within Of) where
@@ -49,16 +48,16 @@ module _ {token : Token → Bool} {Before Within : Look → Type 0} {Of : Cell �
       let later = cells-keep (penAfter t p) ts (s .1) (k .next t (p .look) (s .0) h) in
       (all-append (cell-keeps t p (s .0) h) (later .0), later .1)
 
-  rows-keep : (p : Pen) (rs : List (List Token)) → all (all token) rs ≡ true → Before (p .look) → All (All Of) (cellRows p rs)
+  rows-keep : (l : Look) (rs : List (List Token)) → all (all token) rs ≡ true → Before l → All (All Of) (cellRows l rs)
   unfolding cellRows
-  rows-keep p [] e h = nil
-  rows-keep p (r ∷ rs) e h =
+  rows-keep l [] e h = nil
+  rows-keep l (r ∷ rs) e h =
       let s = test-split (all token) r rs e in
-      let row = cells-keep (rowStart r p) r (s .0) (k .start r p h) in
-      cons (row .0) (rows-keep (penAfterRow p r) rs (s .1) (k .left _ (row .1)))
+      let row = cells-keep (rowStart r l) r (s .0) (k .start r l h) in
+      cons (row .0) (rows-keep (lookAfterRow l r) rs (s .1) (k .left _ (row .1)))
 
-  pub text-keeps : (mode : ℕ) (p : Pen) (ts : List Token) → Before (p .look) → all token ts ≡ true → All (All Of) (cellRows p (rows mode ts))
-  text-keeps mode p ts h e = rows-keep p (rows mode ts) (rows-tested token (k .ends) (breaksPaired mode ts) ts ∙ e) h
+  pub text-keeps : (mode : ℕ) (l : Look) (ts : List Token) → Before l → all token ts ≡ true → All (All Of) (cellRows l (rows mode ts))
+  text-keeps mode l ts h e = rows-keep l (rows mode ts) (rows-tested token (k .ends) (breaksPaired mode ts) ts ∙ e) h
 
 -- the tables hold code points that UTF-8 writes, by one computed test
 scalar-at : (xs : List ℕ) (k : ℕ) → all isScalar xs ≡ true → isScalar (getD xs k 0) ≡ true
@@ -181,13 +180,13 @@ sound =
       ends = refl;
       cell = λ t p v h. record { character = cell-scalar t v; look = here-bits t (p .look) h };
       next = λ t l v h. next-bits t l h;
-      start = λ r p h. start-bits (p .look);
+      start = λ r l h. start-bits l;
       left = λ l h. tt;
     }
 
 -- the cells of every row of a text
-pub rows-sound : (mode : ℕ) (p : Pen) (text : List ℕ) → All (All Sound) (cellRows p (rows mode (tokens text)))
-rows-sound mode p text = text-keeps sound mode p (tokens text) tt (test-all isWritable (tokens-writable text))
+pub rows-sound : (mode : ℕ) (l : Look) (text : List ℕ) → All (All Sound) (cellRows l (rows mode (tokens text)))
+rows-sound mode l text = text-keeps sound mode l (tokens text) tt (test-all isWritable (tokens-writable text))
 
 -- spans together are the cells
 from-flat : (cur cs : List Cell) → flatten (spansFrom cur cs) ≡ cur ++ cs

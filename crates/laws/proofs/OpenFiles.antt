@@ -11,10 +11,10 @@ use Rattle.meaning.specs.declared.Look.{Look}
 use Rattle.meaning.specs.declared.Header.{Header}
 use Rattle.meaning.specs.Lists.{all, any, takeWhile}
 use Rattle.meaning.specs.Refusals.{noRefusal, isGood, firstBroken}
-use Rattle.meaning.specs.Codes.{tokens, isListed, isDoubleHeight}
+use Rattle.meaning.specs.Codes.{tokens, isListed, isControlOf, isDoubleHeight}
 use Rattle.meaning.specs.Rows.{inRow, firstRow, isDouble, breaksPaired, heightsRight, rowsFit, textRule}
 use Rattle.meaning.specs.Looks.{whiteOnBlack}
-use Rattle.meaning.specs.Cells.{switched, lookHere, lookNext, newPen, cellOf, rowStart}
+use Rattle.meaning.specs.Cells.{switched, lookHere, lookNext, cellOf, rowStart}
 use Rattle.meaning.specs.Gsi.{isTeletext, formatOf, blockCount, fileRule}
 use Rattle.meaning.specs.Blocks.{isComment, subtitleRules, firstBlockRules}
 use Rattle.meaning.specs.Sets.{BlockSet, opening, advance}
@@ -32,7 +32,7 @@ use Rattle.laws.proofs.Accepted.{outcome-kept}
 
 -- 0Dh is not listed for open subtitles, so a text within rule 13 is of single height
 token-single : (t : Token) → isListed false t ≡ true → isDoubleHeight t ≡ false
-unfolding isListed isDoubleHeight
+unfolding isListed isControlOf
 token-single (Character p) e = refl
 token-single (Control c) e = absurd (false-not-true e)
 token-single (Switch c) e = refl
@@ -136,15 +136,15 @@ plain =
       ends = refl;
       cell = λ t p e h. here-plain t (p .look) e h;
       next = next-plain;
-      start = λ r p h. h;
+      start = λ r l h. h;
       left = λ l h. and-parts (isWhiteOnBlack l) (not (l .double)) h .1;
     }
 
 text-plain : (mode : ℕ) (first : Header) (ts : List Token) → all (isListed false) ts ≡ true → isPlainSubtitle (subtitleOf mode first ts) ≡ true
-unfolding isPlainSubtitle subtitleOf newPen whiteOnBlack
+unfolding isPlainSubtitle subtitleOf whiteOnBlack
 text-plain mode first ts e =
     rw (text-single ts e)
-    (test-all (all isPlainCell) (all-so (λ r. test-all isPlainCell) (text-keeps plain mode (newPen false) ts refl e)))
+    (test-all (all isPlainCell) (all-so (λ r. test-all isPlainCell) (text-keeps plain mode (whiteOnBlack false) ts refl e)))
 
 module _ (mode : ℕ) (file : List ℕ) (o : isTeletext file ≡ false) where
   made-plain : (s : Subtitle) → Made Any (formatOf mode file) s → isPlainSubtitle s ≡ true

@@ -9,10 +9,10 @@ use lib.ListN.{getD, take, drop}
 use lib.Seq.{getD-drop}
 use borrow.Author.Tests.{lt-ltb, le-leb}
 use Rattle.meaning.specs.Lists.{all}
-use Rattle.meaning.specs.Looks.{lookCount, pack}
+use Rattle.meaning.specs.Looks.{lookCount, whiteOnBlack, pack}
 use Rattle.meaning.specs.Codes.{tokens}
 use Rattle.meaning.specs.Rows.{isDouble}
-use Rattle.meaning.specs.Cells.{Cell, newPen, shown}
+use Rattle.meaning.specs.Cells.{Cell, shown}
 use Rattle.meaning.specs.Spans.{lookOf}
 use Rattle.meaning.specs.Blocks.{blockSize, blocks, headerOf, timesRight, isComment, subtitleRules, firstBlockRules}
 use Rattle.meaning.specs.declared.Header.{Header}
@@ -101,7 +101,7 @@ opened-sn o = rw (o .header) (sn-right (o .bytes) (o .block))
 
 pub made-sound : (f : Format) (s : Subtitle) → Made Bytes f s → SoundRows s
 unfolding subtitleOf
-made-sound f s m = rw (m .made) (rows-sound (f .mode) (newPen (isDouble (tokens (m .text)))) (m .text))
+made-sound f s m = rw (m .made) (rows-sound (f .mode) (whiteOnBlack (isDouble (tokens (m .text)))) (m .text))
 
 pub own-paragraphs :
     (f : Format) (lo hi : ℕ) (ss : List Subtitle) → All (Made Bytes f) ss → Ascends lo ss hi

@@ -7,7 +7,7 @@ use mathlib.Core.Bool.{Bool, Bool·beq, true, false, _&&_, and-assoc}
 use lib.Dec.{eqb}
 use borrow.Author.Tests.{eq-eqb, ne-eqb, eqb-true, eqb-false}
 use Rattle.meaning.specs.declared.Look.{Look}
-use Rattle.meaning.specs.Looks.{lookCount, black, white, whiteOnBlack, withBackground, withColour, bit, pack, unpack, shared, free, blend, onBlack}
+use Rattle.meaning.specs.Looks.{lookCount, black, whiteOnBlack, bit, pack, unpack, shared, free, blend, onBlack, startLook}
 use Rattle.meaning.specs.Cells.{Cell, isBlank}
 use Rattle.meaning.proofs.Logic.{by-test}
 
@@ -86,7 +86,7 @@ pub white-bits : (double : Bool) → ThreeBits (whiteOnBlack double)
 unfolding whiteOnBlack
 white-bits double = record { background = omega arith; colour = omega arith }
 
-pub start-bits : (l : Look) → ThreeBits (withColour white (withBackground black l))
+pub start-bits : (l : Look) → ThreeBits (startLook l)
 start-bits l = record { background = omega arith; colour = omega arith }
 
 pub blend-bits : (l m : Look) → ThreeBits l → ThreeBits m → ThreeBits (blend l m)

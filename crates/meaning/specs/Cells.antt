@@ -7,9 +7,8 @@ use lib.Dec.{ltb, eqb}
 use Rattle.meaning.specs.declared.Token.{Token}
 use Rattle.meaning.specs.declared.Token.the-variants.{Character, Control, Switch, RowEnd, Unlisted}
 use Rattle.meaning.specs.declared.Look.{Look}
-use Rattle.meaning.specs.declared.Pen.{Pen}
 use Rattle.meaning.specs.Codes.{takesCell}
-use Rattle.meaning.specs.Looks.{black, white, whiteOnBlack, withBackground, withColour, onBlack}
+use Rattle.meaning.specs.Looks.{black, withBackground, withColour, startLook, onBlack}
 
 pub record Cell : Type 0 where
   pub character : ℕ
@@ -70,9 +69,9 @@ lookNext (Switch c) l = switched c l
 lookNext RowEnd l = l
 lookNext Unlisted l = l
 
--- the pen is all that a token leaves to the next: the look
-unfoldable pub newPen : Bool → Pen
-newPen double = record { look = whiteOnBlack double }
+-- the pen is all that a token leaves to the next of its row: the look
+pub record Pen : Type 0 where
+  pub look : Look
 
 -- a token's cell under a pen, and the pen after the token
 unfoldable pub cellOf : Token → Pen → Cell
@@ -94,22 +93,21 @@ unfoldable pub penEnd : Pen → List Token → Pen
 penEnd p [] = p
 penEnd p (t ∷ ts) = penEnd (penAfter t p) ts
 
--- the pen at the start of a row, from the pen before it: each row starts white on black, whatever its tokens are; the height is
--- the subtitle's, italics and underline hold on
-unfoldable pub rowStart : List Token → Pen → Pen
-rowStart row p = record { look = withColour white (withBackground black (p .look)) }
+-- the pen at the start of a row, from the look before it, whatever the row's tokens are
+unfoldable pub rowStart : List Token → Look → Pen
+rowStart row l = record { look = startLook l }
 
--- a row's cells, and the pen after it
-abbrev pub cellsOfRow : Pen → List Token → List Cell
-cellsOfRow p row = cellsFrom (rowStart row p) row
+-- a row's cells, and the look after it, which is all that a row leaves to the next
+abbrev pub cellsOfRow : Look → List Token → List Cell
+cellsOfRow l row = cellsFrom (rowStart row l) row
 
-abbrev pub penAfterRow : Pen → List Token → Pen
-penAfterRow p row = penEnd (rowStart row p) row
+abbrev pub lookAfterRow : Look → List Token → Look
+lookAfterRow l row = penEnd (rowStart row l) row .look
 
 -- the cells of rows, one after another
-unfoldable pub cellRows : Pen → List (List Token) → List (List Cell)
-cellRows p [] = []
-cellRows p (r ∷ rs) = cellsOfRow p r ∷ cellRows (penAfterRow p r) rs
+unfoldable pub cellRows : Look → List (List Token) → List (List Cell)
+cellRows l [] = []
+cellRows l (r ∷ rs) = cellsOfRow l r ∷ cellRows (lookAfterRow l r) rs
 
 -- a blank is the cell of 20h or of a control; an underlined space is none
 unfoldable pub isBlank : Cell → Bool

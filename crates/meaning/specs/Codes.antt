@@ -77,10 +77,14 @@ takesCell (Switch c) = false
 takesCell RowEnd = true
 takesCell Unlisted = true
 
+-- the control of a code
+unfoldable pub isControlOf : ℕ → Token → Bool
+isControlOf code (Character p) = false
+isControlOf code (Control c) = eqb c code
+isControlOf code (Switch c) = false
+isControlOf code RowEnd = false
+isControlOf code Unlisted = false
+
 -- 0Dh
-unfoldable pub isDoubleHeight : Token → Bool
-isDoubleHeight (Character p) = false
-isDoubleHeight (Control c) = eqb c 13
-isDoubleHeight (Switch c) = false
-isDoubleHeight RowEnd = false
-isDoubleHeight Unlisted = false
+abbrev pub isDoubleHeight : Token → Bool
+isDoubleHeight = isControlOf 13

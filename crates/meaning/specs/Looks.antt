@@ -27,6 +27,10 @@ withBackground n l = record { italics = l .italics; underline = l .underline; do
 abbrev pub withColour : ℕ → Look → Look
 withColour n l = record { italics = l .italics; underline = l .underline; double = l .double; background = l .background; colour = n }
 
+-- each row starts white on black; the height is the subtitle's, italics and underline hold on
+abbrev pub startLook : Look → Look
+startLook l = withColour white (withBackground black l)
+
 abbrev pub bit : Bool → ℕ
 bit b = cond b 1 0
 

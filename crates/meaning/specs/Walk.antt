@@ -14,7 +14,8 @@ use Rattle.meaning.specs.declared.Format.{Format}
 use Rattle.meaning.specs.Refusals.{noRefusal, isGood}
 use Rattle.meaning.specs.Codes.{tokens}
 use Rattle.meaning.specs.Rows.{rows, isDouble, textRule}
-use Rattle.meaning.specs.Cells.{Cell, newPen, cellRows}
+use Rattle.meaning.specs.Looks.{whiteOnBlack}
+use Rattle.meaning.specs.Cells.{Cell, cellRows}
 use Rattle.meaning.specs.Gsi.{formatOf, blockCount, fileRule}
 use Rattle.meaning.specs.Blocks.{gsiSize, blocks, headerOf, isComment}
 use Rattle.meaning.specs.Sets.{BlockSet, Assembly, Event, noBlocks, isUser, advance}
@@ -97,8 +98,9 @@ pub record Subtitle : Type 0 where
   pub double : Bool
   pub rows : List (List Cell)
 
+-- a subtitle's rows of cells; it begins white on black in its height
 abbrev pub subtitleRows : ℕ → List Token → List (List Cell)
-subtitleRows mode ts = cellRows (newPen (isDouble ts)) (rows mode ts)
+subtitleRows mode ts = cellRows (whiteOnBlack (isDouble ts)) (rows mode ts)
 
 unfoldable pub subtitleOf : ℕ → Header → List Token → Subtitle
 subtitleOf mode first ts = record { first = first; double = isDouble ts; rows = subtitleRows mode ts }

@@ -6,8 +6,7 @@ ghost use lib.Dec.{eqb};
 ghost use Rattle.meaning.specs.Refusals.{inTurn};
 ghost use Rattle.meaning.specs.Blocks.{isComment};
 ghost use Rattle.meaning.specs.Sets.{isUser};
-ghost use Rattle.meaning.specs.Looks.{bit, pack, unpack, shared, free, blend, onBlack};
-ghost use Rattle.meaning.specs.Cells.{newPen};
+ghost use Rattle.meaning.specs.Looks.{whiteOnBlack, bit, pack, unpack, shared, free, blend, onBlack};
 ghost use Rattle.meaning.specs.Rows.{isPaired, linesOf};
 
 // The bytes of the GSI block, of a TTI block's header and text, and of a TTI block.
@@ -170,6 +169,15 @@ impl Look {
         colour: Look::WHITE,
     };
 
+    // White on black in a subtitle's height.
+    pub fn white_on_black(double: bool) -> Look
+        ensures { λ r. ⌜ r ≡ whiteOnBlack double ⌝ }
+    {
+        let mut look = Look::WHITE_ON_BLACK;
+        look.double = double;
+        look
+    }
+
     pub fn pack(self) -> u16
         ensures { λ r. ⌜ r ≡ pack self ⌝ }
     {
@@ -219,22 +227,6 @@ impl Look {
             background: (n / 8 % 8) as u8,
             colour: (n % 8) as u8,
         }
-    }
-}
-
-// What a token of a text leaves to the next: the look of the cells to come.
-pub struct Pen {
-    pub look: Look,
-}
-
-impl Pen {
-    // At the start of a subtitle.
-    pub fn new(double: bool) -> Pen
-        ensures { λ r. ⌜ r ≡ newPen double ⌝ }
-    {
-        let mut look = Look::WHITE_ON_BLACK;
-        look.double = double;
-        Pen { look }
     }
 }
 

@@ -12,7 +12,7 @@ use borrow.Author.Tests.{lt-ltb}
 use Rattle.meaning.specs.declared.Token.{Token}
 use Rattle.meaning.specs.declared.Token.the-variants.{Character}
 use Rattle.meaning.specs.Lists.{all, any, keep}
-use Rattle.meaning.specs.Codes.{isListed, isCharacter, takesCell, isDoubleHeight}
+use Rattle.meaning.specs.Codes.{isListed, isCharacter, takesCell, isControlOf, isDoubleHeight}
 use Rattle.meaning.specs.Rows.{heightFirst, rowLimit, isShort}
 use Rattle.meaning.proofs.Logic.{by-test, same-leb}
 use Rattle.meaning.proofs.ListLaws.{any-cons, all-end, any-end}
@@ -54,7 +54,7 @@ with-token teletext ts t =
     rw (cells, all-end (isListed teletext) ts t, any-end isDoubleHeight ts t, any-end isCharacter ts t, height-end ts t)
 
 more-characters : (teletext : Bool) (f : RowFacts) (c n : ℕ) → withCharacters (withToken teletext f (Character c)) n ≡ withCharacters f (suc n)
-unfolding withCharacters withToken isListed isCharacter takesCell isDoubleHeight
+unfolding withCharacters withToken isListed isCharacter takesCell isControlOf
 more-characters teletext f c n =
     let cells : min (min (f .cells + 1) countLimit + n) countLimit ≡ min (f .cells + suc n) countLimit = omega arith in
     rw (cells, lt-ltb 0 (suc n) (omega arith), or-true (f .character))

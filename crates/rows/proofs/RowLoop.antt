@@ -9,7 +9,7 @@ use lib.ListN.{length, take, drop, length-take, length-drop}
 use lib.Seq.{append-snoc}
 use Rattle.meaning.specs.declared.Token.{Token}
 use Rattle.meaning.specs.declared.Token.the-variants.{Character}
-use Rattle.meaning.specs.Codes.{isRowEnd, isDoubleHeight, tokens}
+use Rattle.meaning.specs.Codes.{isRowEnd, isControlOf, isDoubleHeight, tokens}
 use Rattle.meaning.specs.Lists.{all, any, keep}
 use Rattle.meaning.specs.Rows.{isDouble, firstRow, heightFirst}
 use Rattle.meaning.proofs.ListLaws.{any-cons}
@@ -95,7 +95,7 @@ pub height-start : (s : List ℕ) → HeightLeft s 0
 height-start s = record { height = refl }
 
 run-height : (cs : List ℕ) (ts : List Token) → any isDoubleHeight (map Character cs ++ ts) ≡ any isDoubleHeight ts
-unfolding any isDoubleHeight
+unfolding any isControlOf
 run-height [] ts = refl
 run-height (c ∷ cs) ts = run-height cs ts
 

@@ -8,15 +8,16 @@ use mathlib.Core.Bool.{Bool}
 use mathlib.Core.List.{List, [], _∷_, map}
 use lib.ListN.{length, take, drop}
 use lib.Seq.{take-all, take-length}
+use Rattle.meaning.specs.Looks.{unpack}
 use Rattle.meaning.specs.Spans.{spans}
 use Rattle.meaning.specs.Document.{Piece}
 use Rattle.meaning.specs.Document.Piece.{span}
 use Rattle.meaning.specs.Conversion.{spanOf, rowSpans}
 use Rattle.meaning.proofs.Logic.{by-le}
 use Rattle.cells.specs.declared.RowRead.{RowRead}
-use Rattle.cells.specs.Arrays.{penOf, cellsAt}
+use Rattle.cells.specs.Arrays.{cellsAt}
 use Rattle.cells.specs.Decoded.{rowAt, Decoded}
-use Rattle.cells.proofs.Laws.{decoded-cells, decoded-lengths, decoded-pen}
+use Rattle.cells.proofs.Laws.{decoded-cells, decoded-lengths, decoded-look}
 use Rattle.spans.specs.declared.Shown.{Shown}
 use Rattle.spans.specs.declared.SpanRead.{SpanRead}
 use Rattle.spans.specs.Ranges.{cut, cellsTo, shownRange, spanAt}
@@ -90,18 +91,18 @@ cut-row xs =
     (λ h. let m : min (length xs) rowLimit ≡ rowLimit = omega arith in rw m)
 
 pub row-done :
-    {text : List ℕ} {start pen : ℕ} {characters looks characters′ looks′ buf buf′ : List ℕ} {on on′ : List Bool} {t r : Tally} {d : RowRead}
-    → Decoded text start pen characters looks characters′ looks′ d → length characters ≡ rowLimit → length looks ≡ rowLimit
+    {text : List ℕ} {start before : ℕ} {characters looks characters′ looks′ buf buf′ : List ℕ} {on on′ : List Bool} {t r : Tally} {d : RowRead}
+    → Decoded text start before characters looks characters′ looks′ d → length characters ≡ rowLimit → length looks ≡ rowLimit
     → PiecesLaid buf on t (map span (rowSpans (cellsAt characters′ looks′ 0 (cut characters′ looks′ (d .cells))))) buf′ on′ r
-    → RowDone text start pen buf on t buf′ on′ (record { tally = r; ended = d .ended; next = d .next; pen = d .pen })
+    → RowDone text start before buf on t buf′ on′ (record { tally = r; ended = d .ended; next = d .next; look = d .look })
 unfolding cutRow rowAt
-row-done {text} {start} {pen} {characters} {looks} {characters′} {looks′} {d = d} k h l p =
+row-done {text} {start} {before} {characters} {looks} {characters′} {looks′} {d = d} k h l p =
     let m : cut characters′ looks′ (d .cells) ≡ min (d .cells) rowLimit = omega (arith, decoded-lengths k) in
-    let c : cellsAt characters′ looks′ 0 (cut characters′ looks′ (d .cells)) ≡ take rowLimit (rowAt text start (penOf pen)) =
-    rw m (decoded-cells k (min (d .cells) rowLimit) (omega arith) (omega arith) (omega arith) ∙ rw (k .count) (cut-row (rowAt text start (penOf pen)))) in
+    let c : cellsAt characters′ looks′ 0 (cut characters′ looks′ (d .cells)) ≡ take rowLimit (rowAt text start (unpack before)) =
+    rw m (decoded-cells k (min (d .cells) rowLimit) (omega arith) (omega arith) (omega arith) ∙ rw (k .count) (cut-row (rowAt text start (unpack before)))) in
     record {
       laid = rw c at p;
       ended = k .ended;
       next = k .next;
-      after = decoded-pen k;
+      after = decoded-look k;
     }

@@ -6,14 +6,14 @@ use mathlib.Core.Bool.{Bool, true}
 use mathlib.Core.List.{List, [], _∷_, map, flatMap}
 use lib.ListN.{length, set, take, drop}
 use Rattle.meaning.specs.declared.Format.{Format}
+use Rattle.meaning.specs.Looks.{unpack}
 use Rattle.meaning.specs.Codes.{tokens}
 use Rattle.meaning.specs.Rows.{firstRow, isDouble, rowsOf, rowLimit}
-use Rattle.meaning.specs.Cells.{Cell, cellsOfRow, penAfterRow, cellRows}
+use Rattle.meaning.specs.Cells.{Cell, cellsOfRow, lookAfterRow, cellRows}
 use Rattle.meaning.specs.Walk.{subtitleRows}
 use Rattle.meaning.specs.Document.{Piece, writePiece, looksOf}
 use Rattle.meaning.specs.Document.Piece.{span}
 use Rattle.meaning.specs.Conversion.{rowSpans, rowPieces, pieces}
-use Rattle.cells.specs.Arrays.{penOf}
 use Rattle.output.specs.Output.{past, Wrote}
 use Rattle.charset.specs.Reading.{afterRowAt}
 use Rattle.rows.specs.Scanned.{isEnded}
@@ -41,16 +41,16 @@ PiecesLaid buf on t ps buf′ on′ r = Laid buf on t (flatMap writePiece ps) (l
 unfoldable pub cutRow : List Cell → List Cell
 cutRow cs = take rowLimit cs
 
--- one row of a text laid: its spans, whether a row end follows it, the position after that, and the pen after the row
-pub record RowDone (text : List ℕ) (start pen : ℕ) (buf : List ℕ) (on : List Bool) (t : Tally) (buf′ : List ℕ) (on′ : List Bool) (r : RowLaid) : Type 0 where
-  pub laid : PiecesLaid buf on t (map span (rowSpans (cutRow (cellsOfRow (penOf pen) (firstRow (tokens (drop start text))))))) buf′ on′ (r .tally)
+-- one row of a text laid: its spans, whether a row end follows it, the position after that, and the look after the row
+pub record RowDone (text : List ℕ) (start before : ℕ) (buf : List ℕ) (on : List Bool) (t : Tally) (buf′ : List ℕ) (on′ : List Bool) (r : RowLaid) : Type 0 where
+  pub laid : PiecesLaid buf on t (map span (rowSpans (cutRow (cellsOfRow (unpack before) (firstRow (tokens (drop start text))))))) buf′ on′ (r .tally)
   pub ended : r .ended ≡ isEnded (tokens (drop start text))
   pub next : r .next ≡ afterRowAt text start
-  pub after : penOf (r .pen) ≡ penAfterRow (penOf pen) (firstRow (tokens (drop start text)))
+  pub after : unpack (r .look) ≡ lookAfterRow (unpack before) (firstRow (tokens (drop start text)))
 
 -- all rows of a text laid, with their number, counted up to a limit
-pub record RowsDone (text : List ℕ) (pen : ℕ) (paired : Bool) (buf : List ℕ) (on : List Bool) (t : Tally) (buf′ : List ℕ) (on′ : List Bool) (r : RowsLaid) : Type 0 where
-  pub laid : PiecesLaid buf on t (rowPieces (map cutRow (cellRows (penOf pen) (rowsOf paired (tokens text))))) buf′ on′ (r .tally)
+pub record RowsDone (text : List ℕ) (before : ℕ) (paired : Bool) (buf : List ℕ) (on : List Bool) (t : Tally) (buf′ : List ℕ) (on′ : List Bool) (r : RowsLaid) : Type 0 where
+  pub laid : PiecesLaid buf on t (rowPieces (map cutRow (cellRows (unpack before) (rowsOf paired (tokens text))))) buf′ on′ (r .tally)
   pub rows : r .rows ≡ min (length (rowsOf paired (tokens text))) countLimit
 
 -- what is laid for a text

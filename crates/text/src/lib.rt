@@ -13,7 +13,7 @@ ghost use Rattle.output.specs.Output.{Wrote};
 ghost use Rattle.text.specs.Laid.{PiecesLaid, RowDone, RowsDone, contentOf};
 use meaning::Format;
 use meaning::Lines;
-use meaning::Pen;
+use meaning::Look;
 use meaning::ROW_LIMIT;
 use meaning::Rows;
 
@@ -117,12 +117,12 @@ fn put_row(
     r
 }
 
-// One row laid, whether a row end follows it, the position after that, and the pen after the row, packed.
+// One row laid, whether a row end follows it, the position after that, and the look after the row, packed.
 struct RowLaid {
     tally: Tally,
     ended: bool,
     next: usize,
-    pen: u16,
+    look: u16,
 }
 
 fn lay_row(
@@ -143,7 +143,7 @@ fn lay_row(
         tally,
         ended: row.ended,
         next: row.next,
-        pen: row.pen,
+        look: row.look,
     }
 }
 
@@ -165,16 +165,16 @@ fn lay_rows(
 {
     let first = lay_row(out, marks, t, text, 0, before);
     let mut tally = first.tally;
-    let mut pen = first.pen;
+    let mut look = first.look;
     let mut more = first.ended;
     let mut next = first.next;
     let mut rows = 1;
     while more {
         let at = rows::row_after(text, paired, next);
         tally.at = put_break(out, tally.at);
-        let row = lay_row(out, marks, tally, text, at, pen);
+        let row = lay_row(out, marks, tally, text, at, look);
         tally = row.tally;
-        pen = row.pen;
+        look = row.look;
         more = row.ended;
         next = row.next;
         rows = rows::capped_sum(rows as usize, 1) as u32;
@@ -197,8 +197,7 @@ pub fn put_content(
     let screen = f.screen;
     let double = rows::is_double(text);
     let paired = f.is_paired(double);
-    let pen = Pen::new(double);
-    let look = pen.look;
+    let look = Look::white_on_black(double);
     let laid = lay_rows(out, marks, t, text, look.pack(), paired);
     let lines = Rows(laid.rows).lines(double);
     let mut tally = laid.tally;

@@ -6,6 +6,7 @@ use mathlib.Core.Path.{sym, _∙_}
 use lib.ListN.{length}
 use Rattle.charset.proofs.Laws.{read-on, turn-on}
 use borrow.Author.Needs.{needs}
+use Rattle.meaning.specs.Cells.{rowStart}
 use Rattle.cells.specs.Arrays.{penOf}
 use Rattle.cells.proofs.decode_row.Statement.{statement}
 use Rattle.cells.proofs.decode_row.Tie as tie
@@ -18,9 +19,11 @@ abbrev μ-loop : tie.MeasureT-loop
 μ-loop text start before characters₀ looks₀ pen₀ i₀ n₀ characters looks pen i n = length text - i
 
 loop-holds : tie.Need-loop-holds Inv-loop μ-loop
+unfolding rowStart
 loop-holds c = ahead-all _ _ _ _ _ (c .row-start .ensures)
 
 returns : tie.Need-returns Inv-loop μ-loop
+unfolding rowStart
 returns c =
     let t = c .before .before in
     let o = read-on (t .token-at .ensures) (t .before .loop-test .taken) in
@@ -68,6 +71,7 @@ loop-again c =
     (w .run) (r .0 .0) (r .0 .1) (r .1)
 
 returns-2 : tie.Need-returns-2 Inv-loop μ-loop
+unfolding rowStart
 returns-2 c = ahead-text-end (c .before .loop .inv) (c .loop-test .left) (c .before .before .row-start .ensures)
 
 pub decode-row-spec : {M : Type 1} → statement M

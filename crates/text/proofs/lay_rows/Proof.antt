@@ -13,10 +13,10 @@ use Rattle.text.proofs.lay_rows.Statement.{statement}
 use Rattle.text.proofs.lay_rows.Tie as tie
 
 abbrev Inv-loop : tie.InvT-loop
-Inv-loop out₀ marks₀ text before paired tally₀ pen₀ more₀ next₀ rows₀ out marks tally pen more next rows = RowsLeft text paired out₀ marks₀ tally₀ pen₀ out marks tally pen more next rows
+Inv-loop out₀ marks₀ text before paired tally₀ look₀ more₀ next₀ rows₀ out marks tally look more next rows = RowsLeft text paired out₀ marks₀ tally₀ look₀ out marks tally look more next rows
 
 abbrev μ-loop : tie.MeasureT-loop
-μ-loop out₀ marks₀ text before paired tally₀ pen₀ more₀ next₀ rows₀ out marks tally pen more next rows = cond more (suc (length text - next)) 0
+μ-loop out₀ marks₀ text before paired tally₀ look₀ more₀ next₀ rows₀ out marks tally look more next rows = cond more (suc (length text - next)) 0
 
 loop-holds : tie.Need-loop-holds Inv-loop μ-loop
 loop-holds c = rows-all _ _ (c .before .before .before .before .before .lay-row .ensures)

@@ -2,13 +2,13 @@
 -- Assumes nothing.
 use borrow.Author.Needs.{needs}
 use borrow.Author.Tests.{eq-eqb, ne-eqb}
-use Rattle.meaning.specs.Codes.{isListed, isCharacter, takesCell, isDoubleHeight}
+use Rattle.meaning.specs.Codes.{isListed, isCharacter, takesCell, isControlOf}
 use Rattle.rows.specs.Scanning.{withToken}
 use Rattle.rows.proofs.RowFacts.with_token.Statement.{statement}
 use Rattle.rows.proofs.RowFacts.with_token.Tie as tie
 
 pub with-token-spec : {M : Type 1} → statement M
-unfolding withToken isListed isCharacter takesCell isDoubleHeight
+unfolding withToken isListed isCharacter takesCell isControlOf
 with-token-spec =
     tie.close (tie.spec (λ c κs. search needs) (λ c. search needs) (λ c. search needs) (λ c. search needs) (λ c. search needs) (λ c. search needs)
     (λ c. rw (c .enum-told .given .1, c .before .before .capped-sum .ensures))
