@@ -1,18 +1,19 @@
 -- A row decoded token by token: what the arrays hold so far, and what is still to come.
 -- Assumes nothing.
-use Prim.Native.Nat.{ℕ, _+_, _-_, _≤_, _<_}
+use Prim.Native.Nat.{ℕ, suc, _+_, _-_, _≤_, _<_}
+use native.Mathlib.Nat.{add-zero}
 use native.Mathlib.Omega.{arith}
 use mathlib.Core.Path.{_≡_, refl, sym, ap, _∙_}
-use mathlib.Core.Bool.{true, false}
+use mathlib.Core.Bool.{Bool, true, false}
 use mathlib.Core.List.{List, [], _∷_, _++_, map, map-append}
 use lib.ListN.{length, take, drop, replicate, length-map, length-append, length-take, length-drop}
 use Rattle.meaning.specs.declared.Token.{Token}
 use Rattle.meaning.specs.declared.Token.the-variants.{Character}
 use Rattle.meaning.specs.declared.Look.{Look}
-use Rattle.meaning.specs.Codes.{isRowEnd, takesCell}
+use Rattle.meaning.specs.Codes.{isRowEnd, takesCell, isControlOf, isBoxCode}
 use Rattle.meaning.specs.Rows.{breaksPaired, firstRow}
-use Rattle.meaning.specs.Looks.{lookCount, pack, unpack}
-use Rattle.meaning.specs.Cells.{Cell, Pen, cellCharacter, lookHere, lookNext, cellOf, penAfter, cellsOf, cellsFrom, penEnd, rowStart, cellRows}
+use Rattle.meaning.specs.Looks.{lookCount, bit, pack, unpack}
+use Rattle.meaning.specs.Cells.{Cell, Pen, blank, cellCharacter, lookHere, lookNext, hiddenNext, hiddenIf, cellOf, penAfter, cellsOf, cellsFrom, penEnd, cellRows}
 use Rattle.meaning.proofs.Logic.{by-test}
 use Rattle.meaning.proofs.ListLaws.{All}
 use Rattle.meaning.proofs.ListLaws.All.{cons}
@@ -27,10 +28,10 @@ use Rattle.output.proofs.Laws.{length-stored}
 use Rattle.rows.specs.Scanned.{isEnded}
 use Rattle.rows.proofs.Laws.{first-end, ended-end, first-more, ended-more, first-run, ended-run, first-none, ended-none, rows-first}
 use Rattle.rows.proofs.RowEnds.{row-end, row-more}
-use Rattle.cells.specs.declared.RowRead.{RowRead}
-use Rattle.cells.specs.Arrays.{character, packedLook, places, kept, penOf, packedPen}
+use Rattle.cells.specs.Fronts.{boxedStart, frontAfter, frontFrom}
+use Rattle.cells.specs.Arrays.{character, packedLook, hiddenLook, places, kept, penOf}
 use Rattle.cells.proofs.Keeping.{kept-nil, kept-then}
-use Rattle.cells.specs.Decoded.{tokensFrom, rowAt, runCell, runCells, Decoded}
+use Rattle.cells.specs.Decoded.{tokensFrom, rowAt, boxedRowAt, runCell, runCells, Drawn}
 
 first-of : {A : Type 0} {P : A → Type 0} {x : A} {xs : List A} → All P (x ∷ xs) → P x
 first-of (cons p h) = p
@@ -42,49 +43,70 @@ row-sound text start before =
     let ts = tokensFrom text start in
     first-of (rw (rows-first (breaksPaired 1 ts) ts) at (rows-sound 1 before (drop start text)))
 
-pub cells-one : (t : Token) (pen : Pen) → length (cellsOf t pen) ≤ 1
+pub takes-one : (t : Token) → bit (takesCell t) ≤ 1
+takes-one t = by-test (takesCell t) (λ e. rw e (omega arith)) (λ e. rw e (omega arith))
+
+cells-size : (t : Token) (pen : Pen) → length (cellsOf t pen) ≡ bit (takesCell t)
 unfolding cellsOf
-cells-one t pen = by-test (takesCell t) (λ e. rw e (omega arith)) (λ e. rw e (omega arith))
+cells-size t pen = by-test (takesCell t) (λ e. rw e) (λ e. rw e)
 
 -- the cells of a run are its codes, in the pen's look
-pub run-characters : (pen : Pen) (cs : List ℕ) → map character (runCells pen cs) ≡ cs
-unfolding runCells runCell cellOf character cellCharacter
+pub run-characters : (pen : ℕ) (cs : List ℕ) → map character (runCells (penOf pen false) cs) ≡ cs
+unfolding runCells runCell cellOf hiddenIf character cellCharacter
 run-characters pen [] = refl
 run-characters pen (c ∷ cs) = ap (λ (l : List ℕ). c ∷ l) (run-characters pen cs)
 
-pub run-looks : (pen : ℕ) → pen < lookCount → (cs : List ℕ) → map packedLook (runCells (penOf pen) cs) ≡ replicate (length cs) pen
-unfolding runCells runCell cellOf packedLook lookHere
+pub run-looks : (pen : ℕ) → pen < lookCount → (cs : List ℕ) → map packedLook (runCells (penOf pen false) cs) ≡ replicate (length cs) pen
+unfolding runCells runCell cellOf hiddenIf packedLook lookHere
 run-looks pen h [] = refl
 run-looks pen h (c ∷ cs) = λ i. pack-unpack pen h i ∷ run-looks pen h cs i
 
--- a packed pen after a token, and at the start of a row
+-- or blanks on black
+module _ (pen : ℕ) where
+  pub hidden-characters : (cs : List ℕ) → map character (runCells (penOf pen true) cs) ≡ replicate (length cs) blank
+  unfolding runCells runCell cellOf hiddenIf character
+  hidden-characters [] = refl
+  hidden-characters (c ∷ cs) = ap (λ (l : List ℕ). blank ∷ l) (hidden-characters cs)
+
+  pub hidden-looks : (cs : List ℕ) → map packedLook (runCells (penOf pen true) cs) ≡ replicate (length cs) (hiddenLook pen)
+  unfolding runCells runCell cellOf hiddenIf packedLook lookHere
+  hidden-looks [] = refl
+  hidden-looks (c ∷ cs) = ap (λ (l : List ℕ). hiddenLook pen ∷ l) (hidden-looks cs)
+
+-- the packed look after a token, and at the start of a row
 module _ (t : Token) (pen : ℕ) where
   pub next-small : pack (lookNext t (unpack pen)) < lookCount
   next-small = pack-small _ (next-bits t (unpack pen) (unpack-bits pen))
 
-  next-pen : penOf (pack (lookNext t (unpack pen))) ≡ penAfter t (penOf pen)
+  next-pen : (hidden : Bool) → penOf (pack (lookNext t (unpack pen))) (hiddenNext t hidden) ≡ penAfter t (penOf pen hidden)
   unfolding penAfter
-  next-pen = λ i. record { look = unpack-pack _ (next-bits t (unpack pen) (unpack-bits pen)) i }
+  next-pen hidden = λ i. record { look = unpack-pack _ (next-bits t (unpack pen) (unpack-bits pen)) i; hidden = hiddenNext t hidden }
 
-module _ (row : List Token) (before : ℕ) where
-  start-small : packedPen (rowStart row (unpack before)) < lookCount
-  unfolding rowStart
+module _ (before : ℕ) where
+  start-small : pack (boxedStart (unpack before) .look) < lookCount
   start-small = pack-small _ (start-bits (unpack before))
 
-  start-pen : penOf (packedPen (rowStart row (unpack before))) ≡ rowStart row (unpack before)
-  unfolding rowStart
-  start-pen = λ i. record { look = unpack-pack _ (start-bits (unpack before)) i }
+  start-pen : penOf (pack (boxedStart (unpack before) .look)) false ≡ boxedStart (unpack before)
+  start-pen = λ i. record { look = unpack-pack _ (start-bits (unpack before)) i; hidden = false }
 
 -- characters leave the pen as it is
 run-from : (pen : Pen) (cs : List ℕ) (ts : List Token) → cellsFrom pen (map Character cs ++ ts) ≡ runCells pen cs ++ cellsFrom pen ts
-unfolding runCells runCell cellsFrom cellsOf takesCell penAfter lookNext
+unfolding runCells runCell cellsFrom cellsOf takesCell penAfter lookNext hiddenNext isControlOf
 run-from pen [] ts = refl
 run-from pen (c ∷ cs) ts = ap (λ (l : List Cell). cellOf (Character c) pen ∷ l) (run-from pen cs ts)
 
 run-end : (pen : Pen) (cs : List ℕ) (ts : List Token) → penEnd pen (map Character cs ++ ts) ≡ penEnd pen ts
-unfolding penEnd penAfter lookNext
+unfolding penEnd penAfter lookNext hiddenNext isControlOf
 run-end pen [] ts = refl
 run-end pen (c ∷ cs) ts = run-end pen cs ts
+
+-- and no box code is among them
+run-front : (front n : ℕ) (cs : List ℕ) (ts : List Token) → frontFrom front n (map Character cs ++ ts) ≡ frontFrom front (n + length cs) ts
+unfolding frontFrom frontAfter isBoxCode isControlOf takesCell
+run-front front n [] ts = rw add-zero
+run-front front n (c ∷ cs) ts =
+    let m : n + 1 + length cs ≡ n + suc (length cs) = omega arith in
+    run-front front (n + 1) cs ts ∙ ap (λ (k : ℕ). frontFrom front k ts) m
 
 -- storing the rest of the cells gives what storing all gives
 pub record Left (characters₀ looks₀ : List ℕ) (whole : List Cell) (characters looks : List ℕ) (n : ℕ) (rest : List Cell) : Type 0 where
@@ -118,106 +140,106 @@ left-more {characters₀} {looks₀} {characters} {looks} {n = n} cs rest a p q 
       same-looks = length-stored looks n _ ∙ a .same-looks;
     })
 
--- the row from position i on, after n cells; `first` is the pen at its start
-pub record Ahead (text : List ℕ) (start first : ℕ) (characters₀ looks₀ characters looks : List ℕ) (pen i n : ℕ) : Type 0 where
-  pub left : Left characters₀ looks₀ (cellsFrom (penOf first) (firstRow (tokensFrom text start))) characters looks n (cellsFrom (penOf pen) (firstRow (tokensFrom text i)))
+-- the row from position i on, after n cells, of which `front` are found to stand in front; `first` is the look at its start
+pub record Ahead (text : List ℕ) (start first : ℕ) (characters₀ looks₀ characters looks : List ℕ) (pen : ℕ) (hidden : Bool) (front i n : ℕ) : Type 0 where
+  pub left : Left characters₀ looks₀ (cellsFrom (penOf first false) (firstRow (tokensFrom text start))) characters looks n (cellsFrom (penOf pen hidden) (firstRow (tokensFrom text i)))
   pub ended : isEnded (tokensFrom text i) ≡ isEnded (tokensFrom text start)
-  pub after : penEnd (penOf pen) (firstRow (tokensFrom text i)) ≡ penEnd (penOf first) (firstRow (tokensFrom text start))
+  pub after : penEnd (penOf pen hidden) (firstRow (tokensFrom text i)) ≡ penEnd (penOf first false) (firstRow (tokensFrom text start))
   pub next : afterRowAt text i ≡ afterRowAt text start
+  pub found : frontFrom front n (firstRow (tokensFrom text i)) ≡ frontFrom 0 0 (firstRow (tokensFrom text start))
   pub passed : start + n ≤ i
   pub small : pen < lookCount
 
 pub ahead-all :
-    (text : List ℕ) (start before : ℕ) {first : ℕ} (characters looks : List ℕ) → first ≡ packedPen (rowStart (firstRow (tokensFrom text start)) (unpack before))
-    → Ahead text start first characters looks characters looks first start 0
+    (text : List ℕ) (start before : ℕ) {first : ℕ} (characters looks : List ℕ) → first ≡ pack (boxedStart (unpack before) .look)
+    → Ahead text start first characters looks characters looks first false 0 start 0
 ahead-all text start before characters looks e =
     record {
       left = record { on-characters = refl; on-looks = refl; count = omega arith; same-characters = refl; same-looks = refl };
       ended = refl;
       after = refl;
       next = refl;
+      found = refl;
       passed = omega arith;
-      small = rw e (start-small (firstRow (tokensFrom text start)) before);
-    }
-
--- no cell is left
-decoded : {text : List ℕ} {start before first : ℕ} {characters₀ looks₀ characters looks : List ℕ} {r : RowRead}
-    → first ≡ packedPen (rowStart (firstRow (tokensFrom text start)) (unpack before))
-    → Left characters₀ looks₀ (cellsFrom (penOf first) (firstRow (tokensFrom text start))) characters looks (r .cells) []
-    → r .ended ≡ isEnded (tokensFrom text start) → r .next ≡ afterRowAt text start
-    → r .look < lookCount → penOf (r .look) ≡ penEnd (penOf first) (firstRow (tokensFrom text start))
-    → Decoded text start before characters₀ looks₀ characters looks r
-unfolding rowAt stored
-decoded {text} {start} {before} {characters = characters} {looks} {r} e l ended next small after =
-    let s = ap penOf e ∙ start-pen (firstRow (tokensFrom text start)) before in
-    let k = rw s at l in
-    record {
-      held = (sym (kept-nil characters _ (r .cells)) ∙ k .on-characters, sym (kept-nil looks _ (r .cells)) ∙ k .on-looks);
-      count = omega (arith, k .count);
-      ended = ended;
-      next = next;
-      after = sym (pack-unpack (r .look) small) ∙ ap packedPen (rw s at after);
+      small = rw e (start-small before);
     }
 
 module _
-    {text : List ℕ} {start first : ℕ} {characters₀ looks₀ characters looks : List ℕ} {pen i n : ℕ}
-    (a : Ahead text start first characters₀ looks₀ characters looks pen i n) where
+    {text : List ℕ} {start first : ℕ} {characters₀ looks₀ characters looks : List ℕ} {pen : ℕ} {hidden : Bool} {front i n : ℕ}
+    (a : Ahead text start first characters₀ looks₀ characters looks pen hidden front i n) where
+  -- where no token of the row is left
+  ahead-none : firstRow (tokensFrom text i) ≡ [] → {before next : ℕ} {ended : Bool} → first ≡ pack (boxedStart (unpack before) .look)
+      → ended ≡ isEnded (tokensFrom text start) → next ≡ afterRowAt text start
+      → Drawn text start before characters₀ looks₀ characters looks (record { row = record { cells = n; ended = ended; next = next; look = pen }; front = front })
+  unfolding boxedRowAt cellsFrom penEnd frontFrom stored
+  ahead-none f {before} e ended next =
+      let s = ap (λ (k : ℕ). penOf k false) e ∙ start-pen before in
+      let l = rw (f, s) at (a .left) in
+      record {
+        held = (sym (kept-nil characters _ n) ∙ l .on-characters, sym (kept-nil looks _ n) ∙ l .on-looks);
+        count = omega (arith, l .count);
+        ended = ended;
+        next = next;
+        after = sym (pack-unpack pen (a .small)) ∙ ap (λ (p : Pen). pack (p .look)) (rw (f, s) at (a .after));
+        front = rw f at (a .found);
+      }
+
   -- at a token that was read
   module _ {r : Reading} (o : ReadOn text i r) where
-    pub ahead-more : isRowEnd (r .token) ≡ false → {after : ℕ} {characters′ looks′ : List ℕ} {m : ℕ} → after ≡ pack (lookNext (r .token) (unpack pen))
-        → characters′ ≡ stored characters n (kept (places characters looks) n (map character (cellsOf (r .token) (penOf pen))))
-        → looks′ ≡ stored looks n (kept (places characters looks) n (map packedLook (cellsOf (r .token) (penOf pen))))
-        → m ≡ n + length (cellsOf (r .token) (penOf pen)) → Ahead text start first characters₀ looks₀ characters′ looks′ after (r .next) m
-    unfolding cellsFrom penEnd
-    ahead-more e h p q k =
+    pub ahead-more : isRowEnd (r .token) ≡ false → {after : ℕ} {behind : Bool} {characters′ looks′ : List ℕ} {f m : ℕ} → after ≡ pack (lookNext (r .token) (unpack pen))
+        → behind ≡ hiddenNext (r .token) hidden → f ≡ frontAfter (r .token) front m
+        → characters′ ≡ stored characters n (kept (places characters looks) n (map character (cellsOf (r .token) (penOf pen hidden))))
+        → looks′ ≡ stored looks n (kept (places characters looks) n (map packedLook (cellsOf (r .token) (penOf pen hidden))))
+        → m ≡ n + bit (takesCell (r .token)) → Ahead text start first characters₀ looks₀ characters′ looks′ after behind f (r .next) m
+    unfolding cellsFrom penEnd frontFrom
+    ahead-more e h g w p q k =
         let ts = tokensFrom text (r .next) in
         let f = ap firstRow (o .first) ∙ first-more (r .token) ts e in
-        let s = ap penOf h ∙ next-pen (r .token) pen in
+        let s = (λ i. penOf (h i) (g i)) ∙ next-pen (r .token) pen hidden in
+        let size = cells-size (r .token) (penOf pen hidden) in
         record {
-          left = rw s (left-more (cellsOf (r .token) (penOf pen)) (cellsFrom (penAfter (r .token) (penOf pen)) (firstRow ts)) (rw f at (a .left)) p q k);
+          left = rw s (left-more (cellsOf (r .token) (penOf pen hidden)) (cellsFrom (penAfter (r .token) (penOf pen hidden)) (firstRow ts)) (rw f at (a .left)) p q (rw size k));
           ended = sym (ap isEnded (o .first) ∙ ended-more (r .token) ts e) ∙ a .ended;
-          after = rw s (sym (ap (penEnd (penOf pen)) f) ∙ a .after);
+          after = rw s (sym (ap (penEnd (penOf pen hidden)) f) ∙ a .after);
           next = sym (row-more o e) ∙ a .next;
-          passed = omega (arith, a .passed, o .on, k, cells-one (r .token) (penOf pen));
+          found = rw (w, k) (sym (ap (frontFrom front n) f) ∙ a .found);
+          passed = omega (arith, a .passed, o .on, k, takes-one (r .token));
           small = rw h (next-small (r .token) pen);
         }
 
-    pub ahead-row-end : isRowEnd (r .token) ≡ true → {before : ℕ} → first ≡ packedPen (rowStart (firstRow (tokensFrom text start)) (unpack before))
-        → Decoded text start before characters₀ looks₀ characters looks (record { cells = n; ended = true; next = r .next; look = pen })
-    unfolding cellsFrom penEnd
+    pub ahead-row-end : isRowEnd (r .token) ≡ true → {before : ℕ} → first ≡ pack (boxedStart (unpack before) .look)
+        → Drawn text start before characters₀ looks₀ characters looks (record { row = record { cells = n; ended = true; next = r .next; look = pen }; front = front })
     ahead-row-end e h =
         let ts = tokensFrom text (r .next) in
-        let f = ap firstRow (o .first) ∙ first-end (r .token) ts e in
-        decoded h (rw f at (a .left)) (sym (ap isEnded (o .first) ∙ ended-end (r .token) ts e) ∙ a .ended) (sym (row-end o e) ∙ a .next)
-        (a .small) (sym (ap (penEnd (penOf pen)) f) ∙ a .after)
+        ahead-none (ap firstRow (o .first) ∙ first-end (r .token) ts e) h (sym (ap isEnded (o .first) ∙ ended-end (r .token) ts e) ∙ a .ended) (sym (row-end o e) ∙ a .next)
 
   -- over a run of plain codes
   pub ahead-run : {e m : ℕ} {characters′ looks′ : List ℕ}
       → RunOn text i e
-      → characters′ ≡ stored characters n (kept (places characters looks) n (map character (runCells (penOf pen) (take (e - i) (drop i text)))))
-      → looks′ ≡ stored looks n (kept (places characters looks) n (map packedLook (runCells (penOf pen) (take (e - i) (drop i text))))) → m ≡ n + (e - i)
-      → Ahead text start first characters₀ looks₀ characters′ looks′ pen e m
+      → characters′ ≡ stored characters n (kept (places characters looks) n (map character (runCells (penOf pen hidden) (take (e - i) (drop i text)))))
+      → looks′ ≡ stored looks n (kept (places characters looks) n (map packedLook (runCells (penOf pen hidden) (take (e - i) (drop i text))))) → m ≡ n + (e - i)
+      → Ahead text start first characters₀ looks₀ characters′ looks′ pen hidden front e m
   unfolding runCells
   ahead-run {e} o hc hl k =
+      let p = penOf pen hidden in
       let cs = take (e - i) (drop i text) in
       let ts = tokensFrom text e in
       let f = ap firstRow (o .first) ∙ first-run ts cs in
-      let size : length (map (runCell (penOf pen)) cs) ≡ e - i = omega (arith, length-map cs (runCell (penOf pen)), length-take (e - i) (drop i text), length-drop i text, o .within) in
+      let codes : length cs ≡ e - i = omega (arith, length-take (e - i) (drop i text), length-drop i text, o .within) in
+      let size : length (map (runCell p) cs) ≡ e - i = omega (arith, length-map cs (runCell p), codes) in
       record {
-        left = left-more (runCells (penOf pen) cs) (cellsFrom (penOf pen) (firstRow ts)) (rw (f, run-from (penOf pen) cs (firstRow ts)) at (a .left)) hc hl (rw size k);
+        left = left-more (runCells p cs) (cellsFrom p (firstRow ts)) (rw (f, run-from p cs (firstRow ts)) at (a .left)) hc hl (rw size k);
         ended = sym (ap isEnded (o .first) ∙ ended-run ts cs) ∙ a .ended;
-        after = sym (ap (penEnd (penOf pen)) f ∙ run-end (penOf pen) cs (firstRow ts)) ∙ a .after;
+        after = sym (ap (penEnd p) f ∙ run-end p cs (firstRow ts)) ∙ a .after;
         next = sym (o .row) ∙ a .next;
+        found = rw (k, ← codes) (sym (ap (frontFrom front n) f ∙ run-front front n cs (firstRow ts)) ∙ a .found);
         passed = omega (arith, a .passed, o .on, k);
         small = a .small;
       }
 
   -- at the text's end
-  pub ahead-text-end : length text ≤ i → {before : ℕ} → first ≡ packedPen (rowStart (firstRow (tokensFrom text start)) (unpack before))
-      → Decoded text start before characters₀ looks₀ characters looks (record { cells = n; ended = false; next = i; look = pen })
-  unfolding cellsFrom penEnd
+  pub ahead-text-end : length text ≤ i → {before : ℕ} → first ≡ pack (boxedStart (unpack before) .look)
+      → Drawn text start before characters₀ looks₀ characters looks (record { row = record { cells = n; ended = false; next = i; look = pen }; front = front })
   ahead-text-end h e =
       let t = tokens-end text i h in
-      let f = ap firstRow t ∙ first-none in
-      decoded e (rw f at (a .left)) (sym (ap isEnded t ∙ ended-none) ∙ a .ended) (sym (row-over text i h) ∙ a .next)
-      (a .small) (sym (ap (penEnd (penOf pen)) f) ∙ a .after)
+      ahead-none (ap firstRow t ∙ first-none) e (sym (ap isEnded t ∙ ended-none) ∙ a .ended) (sym (row-over text i h) ∙ a .next)

@@ -13,7 +13,7 @@ use Rattle.meaning.proofs.LookLaws.{ThreeBits, start-bits, unpack-pack}
 use Rattle.laws.proofs.CellFacts.{next-bits}
 use Rattle.output.proofs.Laws.{length-stored}
 use Rattle.cells.specs.declared.RowRead.{RowRead}
-use Rattle.cells.specs.Arrays.{character, packedLook, places, cellsAt}
+use Rattle.cells.specs.Arrays.{places, cellsAt}
 use Rattle.cells.specs.Decoded.{tokensFrom, rowAt, Decoded}
 use Rattle.cells.proofs.Decoding.{row-sound}
 use Rattle.cells.proofs.ReadBack.{read-back}

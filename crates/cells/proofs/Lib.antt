@@ -1,4 +1,7 @@
 pub mod Keeping
+pub mod Overlay
+pub mod Fronts
 pub mod Decoding
+pub mod Hiding
 pub mod ReadBack
 pub mod Laws

@@ -1,12 +1,13 @@
--- Cells kept in two arrays, their characters and their packed looks; a pen kept packed.
+-- Cells kept in two arrays, their characters and their packed looks; a pen whose look is kept packed.
 -- Assumes nothing.
 use Prim.Native.Nat.{ℕ, zero, suc, _-_, min}
 use mathlib.Core.Path.{_≡_}
+use mathlib.Core.Bool.{Bool}
 use mathlib.Core.List.{List, [], _∷_}
 use lib.ListN.{length, getD, take}
 use Rattle.meaning.specs.Looks.{pack, unpack}
 use Rattle.output.specs.Output.{stored}
-use Rattle.meaning.specs.Cells.{Cell, Pen}
+use Rattle.meaning.specs.Cells.{Cell, Pen, hiddenCell}
 
 -- what is kept of a cell
 unfoldable pub character : Cell → ℕ
@@ -31,12 +32,13 @@ abbrev pub CellsStored : List ℕ → List ℕ → ℕ → List ℕ → List ℕ
 CellsStored characters looks k xs ys characters′ looks′ =
     (characters′ ≡ stored characters k (kept (places characters looks) k xs)) × (looks′ ≡ stored looks k (kept (places characters looks) k ys))
 
--- a pen kept packed, as the number of its look
-abbrev pub penOf : ℕ → Pen
-penOf n = record { look = unpack n }
+-- a pen, from its packed look
+abbrev pub penOf : ℕ → Bool → Pen
+penOf n hidden = record { look = unpack n; hidden = hidden }
 
-abbrev pub packedPen : Pen → ℕ
-packedPen p = pack (p .look)
+-- the packed look of a hidden cell, from a packed look of its height
+abbrev pub hiddenLook : ℕ → ℕ
+hiddenLook n = pack (hiddenCell (unpack n .double) .look)
 
 abbrev pub cellAt : List ℕ → List ℕ → ℕ → Cell
 cellAt characters looks k = packedCell (getD characters k 0) (getD looks k 0)

@@ -1,13 +1,19 @@
-// What a token draws under a pen, which is kept packed, as the number of its look.
+// What a token draws under a pen, whose look is kept packed.
 
 ghost use mathlib.Core.Path.{_≡_};
 ghost use Prim.Native.Nat.{_<_};
 ghost use Rattle.meaning.specs.Looks.{lookCount, withBackground, withColour, startLook, pack, unpack};
 ghost use Rattle.meaning.specs.Codes.{takesCell};
-ghost use Rattle.meaning.specs.Cells.{cellCharacter, controlHere, controlNext, switched, lookHere, lookNext};
+ghost use Rattle.meaning.specs.Cells.{cellCharacter, controlHere, controlNext, switched, lookHere, lookNext, hiddenNext};
+ghost use Rattle.cells.specs.Arrays.{hiddenLook};
+ghost use Rattle.cells.specs.Fronts.{frontAfter};
 use crate::BLANK;
 use meaning::Look;
 use meaning::Token;
+
+const BOX_END: u8 = 10;
+
+const BOX_START: u8 = 11;
 
 fn with_background(pen: u16, background: u8) -> u16
     ensures { λ r. ⌜ r ≡ pack (withBackground background (unpack pen)) ⌝ }
@@ -97,7 +103,7 @@ pub(crate) fn look_here(token: Token, pen: u16) -> u16
     }
 }
 
-// The pen after a token.
+// The look after a token.
 pub(crate) fn look_next(token: Token, pen: u16) -> u16
     requires { ⌜ pen < lookCount ⌝ }
     ensures { λ r. ⌜ r ≡ pack (lookNext token (unpack pen)) ⌝ }
@@ -108,6 +114,48 @@ pub(crate) fn look_next(token: Token, pen: u16) -> u16
         Token::Switch(c) => switched(c, pen),
         Token::RowEnd => pen,
         Token::Unlisted => pen,
+    }
+}
+
+// The look of a hidden cell: white on black in the subtitle's height.
+pub(crate) fn hidden_look(pen: u16) -> u16
+    ensures { λ r. ⌜ r ≡ hiddenLook pen ⌝ }
+{
+    let look = Look::unpack(pen);
+    let hidden = Look::white_on_black(look.double);
+    hidden.pack()
+}
+
+// Whether cells are hidden after a token.
+pub(crate) fn hidden_next(token: Token, hidden: bool) -> bool
+    ensures { λ r. ⌜ r ≡ hiddenNext token hidden ⌝ }
+{
+    match token {
+        Token::Character(_) => hidden,
+        Token::Control(c) => (c == BOX_END) | ((c != BOX_START) & hidden),
+        Token::Switch(_) => hidden,
+        Token::RowEnd => hidden,
+        Token::Unlisted => hidden,
+    }
+}
+
+// How many cells stand up to and with that of the first box code, 0 while there is none: after a token, with which there are
+// n cells.
+pub(crate) fn front_after(token: Token, front: usize, n: usize) -> usize
+    ensures { λ r. ⌜ r ≡ frontAfter token front n ⌝ }
+{
+    match token {
+        Token::Character(_) => front,
+        Token::Control(c) => {
+            if ((c == BOX_START) | (c == BOX_END)) & (front == 0) {
+                n
+            } else {
+                front
+            }
+        }
+        Token::Switch(_) => front,
+        Token::RowEnd => front,
+        Token::Unlisted => front,
     }
 }
 

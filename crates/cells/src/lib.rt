@@ -1,20 +1,21 @@
-// One row of a text, decoded into two lent arrays. The pen is kept packed, as looks are: then a run of codes and most tokens
-// hand it on as it is.
+// One row of a text, decoded into two lent arrays. The pen's look is kept packed, as looks are: then a run of codes and most
+// tokens hand it on as it is.
 
 ghost use mathlib.Core.Path.{_≡_};
 ghost use mathlib.Core.List.{[], _∷_, map};
 ghost use Prim.Native.Nat.{_+_, _-_, _<_, _≤_, _^_, min};
 ghost use lib.ListN.{length, take, drop, replicate};
-ghost use Rattle.meaning.specs.Looks.{lookCount};
-ghost use Rattle.meaning.specs.Cells.{cellsOf};
+ghost use Rattle.meaning.specs.Looks.{lookCount, bit};
+ghost use Rattle.meaning.specs.Codes.{takesCell};
+ghost use Rattle.meaning.specs.Cells.{blank, cellsOf};
 ghost use Rattle.output.specs.Output.{stored};
-ghost use Rattle.cells.specs.Arrays.{character, packedLook, penOf, CellsStored};
-ghost use Rattle.cells.specs.Decoded.{runCells, Decoded};
+ghost use Rattle.cells.specs.Arrays.{character, packedLook, hiddenLook, penOf, CellsStored};
+ghost use Rattle.cells.specs.Decoded.{runCells, Drawn, Decoded};
 use meaning::Token;
 
 mod drawing;
 
-// The character of a blank cell: 20h, and every control.
+// The character of a blank cell: 20h, every control and every hidden cell.
 pub const BLANK: u16 = 32;
 
 // A row that was read: how many cells it has, whether a row end follows it, the position after that, and the look after the
@@ -42,14 +43,47 @@ fn store(characters: &mut [u16], looks: &mut [u16], k: usize, character: u16, lo
     }
 }
 
+// Blanks of one look.
+fn put_blanks(characters: &mut [u16], looks: &mut [u16], k: usize, n: usize, look: u16)
+    requires { ⌜ (n ≤ length (now characters) - k) × (n ≤ length (now looks) - k) ⌝ }
+    ensures { λ _. ⌜ (now (characters .exit) ≡ stored (now (characters .entry)) k (replicate n blank)) × (now (looks .exit) ≡ stored (now (looks .entry)) k (replicate n look)) ⌝ }
+{
+    let mut j = 0;
+    while j < n {
+        characters[k + j] = BLANK;
+        looks[k + j] = look;
+        j += 1;
+    }
+}
+
+// Hidden cells, which are blanks on black.
+fn put_hidden(characters: &mut [u16], looks: &mut [u16], k: usize, n: usize, pen: u16)
+    ensures { λ _. ⌜ CellsStored (now (characters .entry)) (now (looks .entry)) k (replicate n blank) (replicate n (hiddenLook pen)) (now (characters .exit)) (now (looks .exit)) ⌝ }
+{
+    let look = drawing::hidden_look(pen);
+    let blanks = output::fitting(least(characters.len(), looks.len()), k, n);
+    put_blanks(characters, looks, k, blanks, look);
+}
+
 // The cell of a token, where it takes one, and how many cells there are then.
-fn put_cell(characters: &mut [u16], looks: &mut [u16], k: usize, token: Token, pen: u16) -> usize
+fn put_cell(
+    characters: &mut [u16],
+    looks: &mut [u16],
+    k: usize,
+    token: Token,
+    pen: u16,
+    hidden: bool,
+) -> usize
     requires { ⌜ (k + 1 < 2 ^ 64) × (pen < lookCount) ⌝ }
-    ensures held { λ r. ⌜ CellsStored (now (characters .entry)) (now (looks .entry)) k (map character (cellsOf token (penOf pen))) (map packedLook (cellsOf token (penOf pen))) (now (characters .exit)) (now (looks .exit)) ⌝ }
-    ensures count { λ r. ⌜ r ≡ k + length (cellsOf token (penOf pen)) ⌝ }
+    ensures held { λ r. ⌜ CellsStored (now (characters .entry)) (now (looks .entry)) k (map character (cellsOf token (penOf pen hidden))) (map packedLook (cellsOf token (penOf pen hidden))) (now (characters .exit)) (now (looks .exit)) ⌝ }
+    ensures count { λ r. ⌜ r ≡ k + bit (takesCell token) ⌝ }
 {
     if !drawing::takes_cell(token) {
         return k;
+    }
+    if hidden {
+        put_hidden(characters, looks, k, 1, pen);
+        return k + 1;
     }
     let character = drawing::cell_character(token);
     let look = drawing::look_here(token, pen);
@@ -80,19 +114,76 @@ fn put_run(
     from: usize,
     to: usize,
     pen: u16,
+    hidden: bool,
 ) -> usize
     requires { ⌜ (from ≤ to) × (to ≤ length (now text)) × (k + (to - from) < 2 ^ 64) × (pen < lookCount) ⌝ }
-    ensures held { λ r. ⌜ CellsStored (now (characters .entry)) (now (looks .entry)) k (map character (runCells (penOf pen) (take (to - from) (drop from (now (text .entry)))))) (map packedLook (runCells (penOf pen) (take (to - from) (drop from (now (text .entry)))))) (now (characters .exit)) (now (looks .exit)) ⌝ }
+    ensures held { λ r. ⌜ CellsStored (now (characters .entry)) (now (looks .entry)) k (map character (runCells (penOf pen hidden) (take (to - from) (drop from (now (text .entry)))))) (map packedLook (runCells (penOf pen hidden) (take (to - from) (drop from (now (text .entry)))))) (now (characters .exit)) (now (looks .exit)) ⌝ }
     ensures count { λ r. ⌜ r ≡ k + (to - from) ⌝ }
 {
     let n = to - from;
+    if hidden {
+        put_hidden(characters, looks, k, n, pen);
+        return k + n;
+    }
     let few = output::fitting(least(characters.len(), looks.len()), k, n);
     put_codes(characters, looks, k, &text[from..from + few], pen);
     k + n
 }
 
+// A row read as if a box were open at its start, and how many of its cells stand up to and with that of its first box code: 0
+// if it has none.
+struct RowDrawn {
+    row: RowRead,
+    front: usize,
+}
+
+fn drawn(cells: usize, ended: bool, next: usize, look: u16, front: usize) -> RowDrawn
+    ensures { λ r. ⌜ r ≡ record { row = record { cells = cells; ended = ended; next = next; look = look }; front = front } ⌝ }
+{
+    let row = RowRead {
+        cells,
+        ended,
+        next,
+        look,
+    };
+    RowDrawn { row, front }
+}
+
+// Most codes are plain, so the run of them after a token is stored at once.
+fn draw_row(
+    text: &[u8],
+    start: usize,
+    before: u16,
+    characters: &mut [u16],
+    looks: &mut [u16],
+) -> RowDrawn
+    ensures { λ r. ⌜ Drawn (now (text .entry)) start before (now (characters .entry)) (now (looks .entry)) (now (characters .exit)) (now (looks .exit)) r ⌝ }
+{
+    let mut pen = drawing::row_start(before);
+    let mut hidden = false;
+    let mut front = 0;
+    let mut i = start;
+    let mut n = 0;
+    while i < text.len() {
+        let reading = charset::token_at(text, i);
+        let token = reading.token;
+        if rows::is_row_end(token) {
+            return drawn(n, true, reading.next, pen, front);
+        }
+        n = put_cell(characters, looks, n, token, pen, hidden);
+        pen = drawing::look_next(token, pen);
+        hidden = drawing::hidden_next(token, hidden);
+        front = drawing::front_after(token, front, n);
+        let after = reading.next;
+        i = charset::plain_end(text, after);
+        n = put_run(characters, looks, n, text, after, i, pen, hidden);
+    }
+    drawn(n, false, i, pen, front)
+}
+
 // The cells of the row that starts at a position, from the look before it. Those that the arrays have no place for are
-// counted all the same. Most codes are plain, so the run of them after a token is stored at once.
+// counted all the same. A row is not searched for box codes first: its cells up to and with that of the first one are hidden
+// at the end, in the height before the row, which no token changes.
 pub fn decode_row(
     text: &[u8],
     start: usize,
@@ -102,30 +193,8 @@ pub fn decode_row(
 ) -> RowRead
     ensures { λ r. ⌜ Decoded (now (text .entry)) start before (now (characters .entry)) (now (looks .entry)) (now (characters .exit)) (now (looks .exit)) r ⌝ }
 {
-    let mut pen = drawing::row_start(before);
-    let mut i = start;
-    let mut n = 0;
-    while i < text.len() {
-        let reading = charset::token_at(text, i);
-        let token = reading.token;
-        if rows::is_row_end(token) {
-            return RowRead {
-                cells: n,
-                ended: true,
-                next: reading.next,
-                look: pen,
-            };
-        }
-        n = put_cell(characters, looks, n, token, pen);
-        pen = drawing::look_next(token, pen);
-        let after = reading.next;
-        i = charset::plain_end(text, after);
-        n = put_run(characters, looks, n, text, after, i, pen);
-    }
-    RowRead {
-        cells: n,
-        ended: false,
-        next: i,
-        look: pen,
-    }
+    let drawn = draw_row(text, start, before, characters, looks);
+    let row = drawn.row;
+    put_hidden(characters, looks, 0, drawn.front, before);
+    row
 }

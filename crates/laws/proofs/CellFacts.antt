@@ -16,7 +16,7 @@ use Rattle.meaning.specs.Tables.{latinTable, composedTable}
 use Rattle.meaning.specs.Characters.{latin, accent, letter, composed}
 use Rattle.meaning.specs.Codes.{isControl, isSwitch, characterOf, codeToken, pairToken, isAccent, tokens, takesCell}
 use Rattle.meaning.specs.Rows.{breaksPaired, rows}
-use Rattle.meaning.specs.Cells.{Cell, Pen, points, glyphs, cellCharacter, controlHere, controlNext, switched, lookHere, lookNext, cellOf, penAfter, cellsOf, cellsFrom, penEnd, rowStart, lookAfterRow, cellRows, isBlank}
+use Rattle.meaning.specs.Cells.{Cell, Pen, points, glyphs, cellCharacter, controlHere, controlNext, switched, lookHere, lookNext, hiddenIf, cellOf, penAfter, cellsOf, cellsFrom, penEnd, rowStart, lookAfterRow, cellRows, isBlank}
 use Rattle.meaning.specs.Spans.{foregroundOf, lookOf, uniform, spansFrom, spans}
 use Rattle.meaning.specs.Profile.{isScalar}
 use Rattle.meaning.proofs.Logic.{by-test}
@@ -172,13 +172,18 @@ unfolding points flatMap
 points-scalar nil = nil
 points-scalar (cons s h) = cons (s .character) (points-scalar h)
 
+shown-sound : (hidden : Bool) (c : Cell) → Sound c → Sound (hiddenIf hidden c)
+unfolding hiddenIf
+shown-sound true c s = record { character = unfold isScalar in refl; look = white-bits (c .look .double) }
+shown-sound false c s = s
+
 -- a row may start from any look
 sound : Keeping isWritable (λ l. Unit {0}) ThreeBits Sound
 unfolding cellOf rowStart
 sound =
     record {
       ends = refl;
-      cell = λ t p v h. record { character = cell-scalar t v; look = here-bits t (p .look) h };
+      cell = λ t p v h. shown-sound (p .hidden) _ (record { character = cell-scalar t v; look = here-bits t (p .look) h });
       next = λ t l v h. next-bits t l h;
       start = λ r l h. start-bits l;
       left = λ l h. tt;

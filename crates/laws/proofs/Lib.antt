@@ -14,5 +14,6 @@ pub mod OwnProfile
 pub mod Accepted
 pub mod Refused
 pub mod OpenFiles
+pub mod Boxes
 pub mod Demand3
 pub mod Bounds

@@ -2,7 +2,7 @@
 -- Assumes nothing.
 use Prim.Native.Nat.{ℕ}
 use mathlib.Core.Path.{_≡_, refl, ap, _∙_}
-use mathlib.Core.Bool.{true, false, cond, not}
+use mathlib.Core.Bool.{Bool, true, false, cond, not}
 use mathlib.Core.List.{List, [], _∷_, _++_}
 use Rattle.meaning.specs.declared.Token.{Token}
 use Rattle.meaning.specs.declared.Token.the-variants.{Character, Control, Switch, RowEnd, Unlisted}
@@ -11,17 +11,17 @@ use Rattle.meaning.specs.declared.Look.{Look}
 use Rattle.meaning.specs.declared.Header.{Header}
 use Rattle.meaning.specs.Lists.{all, any, takeWhile}
 use Rattle.meaning.specs.Refusals.{noRefusal, isGood, firstBroken}
-use Rattle.meaning.specs.Codes.{tokens, isListed, isControlOf, isDoubleHeight}
+use Rattle.meaning.specs.Codes.{tokens, isListed, isControlOf, isDoubleHeight, isBoxCode}
 use Rattle.meaning.specs.Rows.{inRow, firstRow, isDouble, breaksPaired, heightsRight, rowsFit, textRule}
 use Rattle.meaning.specs.Looks.{whiteOnBlack}
-use Rattle.meaning.specs.Cells.{switched, lookHere, lookNext, cellOf, rowStart}
+use Rattle.meaning.specs.Cells.{Cell, switched, lookHere, lookNext, hiddenIf, cellOf, rowStart}
 use Rattle.meaning.specs.Gsi.{isTeletext, formatOf, blockCount, fileRule}
 use Rattle.meaning.specs.Blocks.{isComment, subtitleRules, firstBlockRules}
 use Rattle.meaning.specs.Sets.{BlockSet, opening, advance}
 use Rattle.meaning.specs.Walk.{Subtitle, Outcome, finish, walk, setRule, subtitleOf, subtitlesFrom, withSubtitles, outcome, subtitlesOf}
 use Rattle.meaning.specs.Walk.Outcome.{refused, accepted}
 use Rattle.meaning.specs.Conversion.{paragraphOf, documentOf, answerTo, answer, bufferAfter, output}
-use Rattle.laws.specs.OpenFiles.{OneMode, isWhiteOnBlack, isPlain, isPlainCell, isPlainSubtitle, WhiteOnBlack}
+use Rattle.laws.specs.OpenFiles.{NoBoxes, OneMode, isWhiteOnBlack, isPlain, isPlainCell, isPlainSubtitle, WhiteOnBlack}
 use Rattle.meaning.proofs.Logic.{by-test, false-not-true, and-parts}
 use Rattle.meaning.proofs.ListLaws.{Any, any-blocks, all-so, any-cons, test-nil, test-split, test-all, while-on, while-off}
 use Rattle.meaning.proofs.RefusalLaws.{unbroken}
@@ -30,22 +30,31 @@ use Rattle.laws.proofs.Walk.{Made, Kept}
 use Rattle.laws.proofs.CellFacts.{Keeping, text-keeps}
 use Rattle.laws.proofs.Accepted.{outcome-kept}
 
--- 0Dh is not listed for open subtitles, so a text within rule 13 is of single height
-token-single : (t : Token) → isListed false t ≡ true → isDoubleHeight t ≡ false
+-- no control is listed for open subtitles
+no-control : (code : ℕ) (t : Token) → isListed false t ≡ true → isControlOf code t ≡ false
 unfolding isListed isControlOf
-token-single (Character p) e = refl
-token-single (Control c) e = absurd (false-not-true e)
-token-single (Switch c) e = refl
-token-single RowEnd e = refl
-token-single Unlisted e = refl
+no-control code (Character p) e = refl
+no-control code (Control c) e = absurd (false-not-true e)
+no-control code (Switch c) e = refl
+no-control code RowEnd e = refl
+no-control code Unlisted e = refl
 
+-- so no row of a text within rule 13 holds a box code
+pub no-boxes : NoBoxes
+unfolding isBoxCode
+no-boxes [] e = unfold any in refl
+no-boxes (t ∷ ts) e =
+    let h = test-split (isListed false) t ts e in
+    rw (any-cons isBoxCode t ts, no-control 11 t (h .0), no-control 10 t (h .0)) (no-boxes ts (h .1))
+
+-- and the text is of single height
 text-single : (ts : List Token) → all (isListed false) ts ≡ true → isDouble ts ≡ false
 unfolding firstRow
 text-single [] e = unfold any takeWhile in refl
 text-single (t ∷ ts) e =
     let h = test-split (isListed false) t ts e in
     by-test (inRow t)
-    (λ i. rw (while-on inRow t ts i, any-cons isDoubleHeight t (takeWhile inRow ts), token-single t (h .0)) (text-single ts (h .1)))
+    (λ i. rw (while-on inRow t ts i, any-cons isDoubleHeight t (takeWhile inRow ts), no-control 13 t (h .0)) (text-single ts (h .1)))
     (λ i. rw (while-off inRow t ts i) (unfold any in refl))
 
 module _ (file : List ℕ) (o : isTeletext file ≡ false) where
@@ -128,13 +137,18 @@ next-plain (Switch c) l e h = h
 next-plain RowEnd l e h = h
 next-plain Unlisted l e h = h
 
+shown-plain : (hidden : Bool) (c : Cell) → isPlainCell c ≡ true → isPlainCell (hiddenIf hidden c) ≡ true
+unfolding hiddenIf isPlainCell isPlain isWhiteOnBlack whiteOnBlack
+shown-plain true c h = and-parts (isWhiteOnBlack (c .look)) (not (c .look .double)) h .1
+shown-plain false c h = h
+
 -- a row starts white on black, in the height before it
 plain : Keeping (isListed false) (λ l. not (l .double) ≡ true) (λ l. isPlain l ≡ true) (λ c. isPlainCell c ≡ true)
 unfolding isListed cellOf rowStart isPlain isWhiteOnBlack isPlainCell
 plain =
     record {
       ends = refl;
-      cell = λ t p e h. here-plain t (p .look) e h;
+      cell = λ t p e h. shown-plain (p .hidden) _ (here-plain t (p .look) e h);
       next = next-plain;
       start = λ r l h. h;
       left = λ l h. and-parts (isWhiteOnBlack l) (not (l .double)) h .1;

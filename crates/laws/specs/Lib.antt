@@ -1,3 +1,4 @@
 pub mod Demands
 pub mod Letters
 pub mod OpenFiles
+pub mod Boxes

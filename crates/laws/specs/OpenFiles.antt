@@ -1,16 +1,22 @@
--- What holds of files of open subtitles: document 02, request 1.
+-- What holds of files of open subtitles: document 02, requests 1 and 2.
 -- Assumes nothing.
 use Prim.Native.Nat.{ℕ}
 use mathlib.Core.Path.{_≡_}
-use mathlib.Core.Bool.{Bool, true, not, _&&_}
+use mathlib.Core.Bool.{Bool, true, false, not, _&&_}
 use mathlib.Core.List.{List}
 use lib.Dec.{eqb}
+use Rattle.meaning.specs.declared.Token.{Token}
 use Rattle.meaning.specs.declared.Look.{Look}
-use Rattle.meaning.specs.Lists.{all}
+use Rattle.meaning.specs.Lists.{all, any}
+use Rattle.meaning.specs.Codes.{isListed, isBoxCode}
 use Rattle.meaning.specs.Looks.{black, white}
 use Rattle.meaning.specs.Cells.{Cell}
 use Rattle.meaning.specs.Walk.{Subtitle, subtitlesOf, outcome}
 use Rattle.meaning.specs.Conversion.{answer, output}
+
+-- no row holds a box code, and so request 2 hides nothing
+abbrev pub NoBoxes : Type 0
+NoBoxes = (row : List Token) → all (isListed false) row ≡ true → any isBoxCode row ≡ false
 
 -- either break mode reads as 1
 pub record OneMode (file : List ℕ) : Type 0 where

@@ -136,6 +136,45 @@ request1 =
     ∷ refuses 1 (film 10 (replicate 10 128 ++ replicate 64 32 ++ (65 ∷ []))) 15 0
     ∷ []
 
-right : T (all holds (paper ++ request1))
-unfolding computed files paragraphsIn sameTexts sameAnswer holds refuses accepts one two full film paper request1
+-- document 02, request 2
+request2 : List Case
+request2 =
+    -- text before 0Bh and after 0Ah; 0Bh only, 0Ah only
+    accepts 1 (one 23 (88 ∷ 11 ∷ 65 ∷ 10 ∷ 89 ∷ [])) ("<tt:span style=\"s007\">A</tt:span>" ∷ [])
+    ∷ accepts 1 (one 23 (88 ∷ 11 ∷ 65 ∷ [])) ("<tt:span style=\"s007\">A</tt:span>" ∷ [])
+    ∷ accepts 1 (one 23 (88 ∷ 10 ∷ 65 ∷ [])) ("" ∷ [])
+    -- white on red, set while hidden: the cell of the 0Bh that opens the box is hidden, those of a further 0Bh and of the closing 0Ah are shown
+    ∷ accepts 1 (one 23 (1 ∷ 29 ∷ 7 ∷ 11 ∷ 65 ∷ 11 ∷ 66 ∷ 10 ∷ 67 ∷ [])) ("<tt:span style=\"s015\">A B </tt:span>" ∷ [])
+    -- 0Ah outside any box
+    ∷ accepts 1 (one 23 (1 ∷ 29 ∷ 7 ∷ 10 ∷ 11 ∷ 65 ∷ [])) ("<tt:span style=\"s015\">A</tt:span>" ∷ [])
+    -- a second box; between the two, blanks on black in the subtitle's height
+    ∷ accepts 1 (one 23 (11 ∷ 65 ∷ 10 ∷ 88 ∷ 11 ∷ 66 ∷ 10 ∷ [])) ("<tt:span style=\"s007\">A   B</tt:span>" ∷ [])
+    ∷ accepts 1 (one 22 (13 ∷ 1 ∷ 29 ∷ 7 ∷ 11 ∷ 65 ∷ 10 ∷ 88 ∷ 11 ∷ 66 ∷ [])) ("<tt:span style=\"s079\">A </tt:span><tt:span style=\"s071\">  </tt:span><tt:span style=\"s079\">B</tt:span>" ∷ [])
+    -- what is set between boxes holds in the second; 1Ch hidden
+    ∷ accepts 1 (one 23 (1 ∷ 29 ∷ 7 ∷ 11 ∷ 65 ∷ 10 ∷ 28 ∷ 2 ∷ 11 ∷ 66 ∷ [])) ("<tt:span style=\"s015\">A </tt:span><tt:span style=\"s002\">   B</tt:span>" ∷ [])
+    -- a box ends with its row; a row without box codes is shown whole
+    ∷ accepts 1 (one 22 (11 ∷ 65 ∷ 138 ∷ 66 ∷ [])) ("<tt:span style=\"s007\">A</tt:span><tt:br/><tt:span style=\"s007\">B</tt:span>" ∷ [])
+    ∷ accepts 1 (one 22 (11 ∷ 65 ∷ 10 ∷ 138 ∷ 66 ∷ [])) ("<tt:span style=\"s007\">A</tt:span><tt:br/><tt:span style=\"s007\">B</tt:span>" ∷ [])
+    ∷ accepts 1 (one 22 (11 ∷ 65 ∷ 138 ∷ 66 ∷ 10 ∷ [])) ("<tt:span style=\"s007\">A</tt:span><tt:br/>" ∷ [])
+    -- hidden codes are tested: 7Fh, C2h 0Bh, 0Dh after a character; 64 cells and 65
+    ∷ refuses 1 (one 23 (65 ∷ 10 ∷ 127 ∷ [])) 13 0
+    ∷ refuses 1 (one 23 (194 ∷ 11 ∷ 65 ∷ [])) 13 0
+    ∷ refuses 1 (one 22 (88 ∷ 13 ∷ 11 ∷ 65 ∷ [])) 14 0
+    ∷ accepts 1 (one 23 (replicate 62 88 ++ (11 ∷ 65 ∷ []))) ("<tt:span style=\"s007\">A</tt:span>" ∷ [])
+    ∷ refuses 1 (one 23 (replicate 63 88 ++ (11 ∷ 65 ∷ []))) 15 0
+    -- a second 0Ah; A0h hidden; 0Bh last; a box over two blocks
+    ∷ accepts 1 (one 23 (1 ∷ 29 ∷ 7 ∷ 11 ∷ 65 ∷ 10 ∷ 10 ∷ 67 ∷ [])) ("<tt:span style=\"s015\">A </tt:span>" ∷ [])
+    ∷ accepts 1 (one 23 (160 ∷ 11 ∷ 65 ∷ 10 ∷ 160 ∷ [])) ("<tt:span style=\"s007\">A</tt:span>" ∷ [])
+    ∷ accepts 1 (one 23 (65 ∷ 11 ∷ [])) ("" ∷ [])
+    ∷ accepts 1 (two 23 (88 ∷ 11 ∷ []) (65 ∷ 10 ∷ 89 ∷ [])) ("<tt:span style=\"s007\">A</tt:span>" ∷ [])
+    -- 0Dh in a row that is hidden whole; break mode 2; 0Dh hidden in a later row
+    ∷ accepts 1 (one 20 (13 ∷ 10 ∷ 138 ∷ 65 ∷ [])) ("<tt:br/><tt:span style=\"s071\">A</tt:span>" ∷ [])
+    ∷ accepts 2 (one 20 (13 ∷ 11 ∷ 65 ∷ 138 ∷ 138 ∷ 66 ∷ 10 ∷ [])) ("<tt:span style=\"s071\">A</tt:span><tt:br/>" ∷ [])
+    ∷ refuses 1 (one 22 (65 ∷ 138 ∷ 10 ∷ 13 ∷ 66 ∷ [])) 14 0
+    -- no box in open subtitles
+    ∷ refuses 1 (film 10 (11 ∷ 65 ∷ [])) 13 0
+    ∷ []
+
+right : T (all holds (paper ++ request1 ++ request2))
+unfolding computed files paragraphsIn sameTexts sameAnswer holds refuses accepts one two full film paper request1 request2
 right = tt

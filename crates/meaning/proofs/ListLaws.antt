@@ -10,7 +10,7 @@ use mathlib.Core.List.{List, [], _∷_, _++_, map, append-assoc, flatMap}
 use lib.ListN.{length, getD, take, drop, replicate, length-take, drop-of-length-le}
 use lib.Seq.{drop-cons}
 use Rattle.meaning.specs.Lists.{all, any, takeWhile}
-use Rattle.meaning.proofs.Logic.{by-test, and-parts}
+use Rattle.meaning.proofs.Logic.{by-test, and-parts, or-none}
 
 -- tests over a list, one element at a time
 module _ {A : Type 0} (p : A → Bool) (x : A) (xs : List A) where
@@ -21,6 +21,9 @@ module _ {A : Type 0} (p : A → Bool) (x : A) (xs : List A) where
   pub any-cons : any p (x ∷ xs) ≡ (p x || any p xs)
   unfolding any
   any-cons = by-test (p x) (λ e. rw (e, any)) (λ e. rw (e, any))
+
+  pub none-split : any p (x ∷ xs) ≡ false → (p x ≡ false) × (any p xs ≡ false)
+  none-split e = or-none (p x) (any p xs) (sym any-cons ∙ e)
 
 -- and at the end of a list
 module _ {A : Type 0} (p : A → Bool) where

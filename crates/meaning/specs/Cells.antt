@@ -1,4 +1,4 @@
--- A row's cells, and those shown: document 01, "Text to rows"; document 02, request 1.
+-- A row's cells, and those shown: document 01, "Text to rows"; document 02, requests 1 and 2.
 -- Assumes nothing.
 use Prim.Native.Nat.{ℕ}
 use mathlib.Core.Bool.{Bool, true, false, cond, not, _&&_, _||_}
@@ -7,8 +7,9 @@ use lib.Dec.{ltb, eqb}
 use Rattle.meaning.specs.declared.Token.{Token}
 use Rattle.meaning.specs.declared.Token.the-variants.{Character, Control, Switch, RowEnd, Unlisted}
 use Rattle.meaning.specs.declared.Look.{Look}
-use Rattle.meaning.specs.Codes.{takesCell}
-use Rattle.meaning.specs.Looks.{black, withBackground, withColour, startLook, onBlack}
+use Rattle.meaning.specs.Lists.{any}
+use Rattle.meaning.specs.Codes.{takesCell, isBoxStart, isBoxEnd, isBoxCode}
+use Rattle.meaning.specs.Looks.{black, whiteOnBlack, withBackground, withColour, startLook, onBlack}
 
 pub record Cell : Type 0 where
   pub character : ℕ
@@ -69,16 +70,29 @@ lookNext (Switch c) l = switched c l
 lookNext RowEnd l = l
 lookNext Unlisted l = l
 
--- the pen is all that a token leaves to the next of its row: the look
+-- after 0Ah cells are hidden, after 0Bh they are not; any other token leaves it
+unfoldable pub hiddenNext : Token → Bool → Bool
+hiddenNext t hidden = isBoxEnd t || (not (isBoxStart t) && hidden)
+
+-- a hidden cell becomes a blank on black in the subtitle's height
+abbrev pub hiddenCell : Bool → Cell
+hiddenCell double = record { character = blank; look = whiteOnBlack double }
+
+unfoldable pub hiddenIf : Bool → Cell → Cell
+hiddenIf true c = hiddenCell (c .look .double)
+hiddenIf false c = c
+
+-- the pen is all that a token leaves to the next of its row: the look, and whether cells are hidden
 pub record Pen : Type 0 where
   pub look : Look
+  pub hidden : Bool
 
--- a token's cell under a pen, and the pen after the token
+-- a token's cell under a pen, and the pen after the token; what is hidden acts all the same
 unfoldable pub cellOf : Token → Pen → Cell
-cellOf t p = record { character = cellCharacter t; look = lookHere t (p .look) }
+cellOf t p = hiddenIf (p .hidden) (record { character = cellCharacter t; look = lookHere t (p .look) })
 
 unfoldable pub penAfter : Token → Pen → Pen
-penAfter t p = record { look = lookNext t (p .look) }
+penAfter t p = record { look = lookNext t (p .look); hidden = hiddenNext t (p .hidden) }
 
 -- the cell that a token takes, if it takes one
 unfoldable pub cellsOf : Token → Pen → List Cell
@@ -93,9 +107,10 @@ unfoldable pub penEnd : Pen → List Token → Pen
 penEnd p [] = p
 penEnd p (t ∷ ts) = penEnd (penAfter t p) ts
 
--- the pen at the start of a row, from the look before it, whatever the row's tokens are
+-- the pen at the start of a row, from the look before it: in a row that holds any 0Ah or 0Bh cells are hidden up to and with a 0Bh;
+-- in open subtitles no row does
 unfoldable pub rowStart : List Token → Look → Pen
-rowStart row l = record { look = startLook l }
+rowStart row l = record { look = startLook l; hidden = any isBoxCode row }
 
 -- a row's cells, and the look after it, which is all that a row leaves to the next
 abbrev pub cellsOfRow : Look → List Token → List Cell
@@ -109,7 +124,7 @@ unfoldable pub cellRows : Look → List (List Token) → List (List Cell)
 cellRows l [] = []
 cellRows l (r ∷ rs) = cellsOfRow l r ∷ cellRows (lookAfterRow l r) rs
 
--- a blank is the cell of 20h or of a control; an underlined space is none
+-- a blank is the cell of 20h or of a control, or a hidden one; an underlined space is none
 unfoldable pub isBlank : Cell → Bool
 isBlank c = eqb (c .character) blank && not (c .look .underline)
 

@@ -1,4 +1,4 @@
--- A text's codes and what they stand for: document 01, "Text to rows"; document 02, request 1.
+-- A text's codes and what they stand for: document 01, "Text to rows"; document 02, requests 1 and 2.
 -- Assumes nothing.
 use Prim.Native.Nat.{ℕ, zero, suc}
 use mathlib.Core.Bool.{Bool, true, false, not, _&&_, _||_}
@@ -88,3 +88,13 @@ isControlOf code Unlisted = false
 -- 0Dh
 abbrev pub isDoubleHeight : Token → Bool
 isDoubleHeight = isControlOf 13
+
+-- 0Bh, the start of a box, and 0Ah, its end
+abbrev pub isBoxStart : Token → Bool
+isBoxStart = isControlOf 11
+
+abbrev pub isBoxEnd : Token → Bool
+isBoxEnd = isControlOf 10
+
+unfoldable pub isBoxCode : Token → Bool
+isBoxCode t = isBoxStart t || isBoxEnd t

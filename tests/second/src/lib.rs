@@ -1,7 +1,7 @@
 //! An independent second converter from EBU STL subtitle files to EBU-TT
-//! documents, written from document 01 (the rules), from request 1 of document
-//! 02 (open subtitles) and from Appendix B of document 004 (the Latin table)
-//! alone.
+//! documents, written from document 01 (the rules), from requests 1 and 2 of
+//! document 02 (open subtitles, text after the end box) and from Appendix B of
+//! document 004 (the Latin table) alone.
 //!
 //! * [`characters`]: codes and accent pairs to characters
 //! * [`file`]: where the bytes of the file stand

@@ -6,6 +6,7 @@
 //! one number of "What comes back" (they may hide one another, which tests the
 //! order); last, the room of the buffer.
 
+mod boxes;
 mod header;
 mod limits;
 mod open;
@@ -19,6 +20,7 @@ mod text;
 
 use crate::convert;
 use crate::dice::Dice;
+use boxes::box_case;
 use limits::paper_case;
 use open::open_case;
 use ordinary::ordinary;
@@ -40,7 +42,8 @@ pub fn sample(seed: u64) -> Sample {
         2..=5 => full(&mut dice),
         6..=77 => paper_case(&mut dice),
         78..=137 => open_case(&mut dice),
-        138..=185 => raw_text(&mut dice),
+        138..=161 => box_case(&mut dice),
+        162..=209 => raw_text(&mut dice),
         _ => ordinary(&mut dice),
     };
     let file = plan.file(&mut dice);

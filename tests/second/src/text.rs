@@ -7,6 +7,10 @@ use crate::Reason;
 /// "8Ah ends a row"
 const ROW_END: u8 = 0x8A;
 
+/// "0Ah and 0Bh (box)": 0Ah is "the end box".
+const END_BOX: u8 = 0x0A;
+const START_BOX: u8 = 0x0B;
+
 /// "0Dh (double height)"
 const DOUBLE_HEIGHT: u8 = 0x0D;
 
@@ -185,7 +189,7 @@ fn switch(byte: u8) -> Option<Switch> {
 
 /// "Controls allowed: 00h to 07h, 0Ah and 0Bh (box), 0Dh, 1Ch, 1Dh."
 fn is_allowed_control(byte: u8) -> bool {
-    matches!(byte, 0x00..=0x07 | 0x0A | 0x0B | DOUBLE_HEIGHT | BLACK_BACKGROUND | NEW_BACKGROUND)
+    matches!(byte, 0x00..=0x07 | END_BOX | START_BOX | DOUBLE_HEIGHT | BLACK_BACKGROUND | NEW_BACKGROUND)
 }
 
 /// "8Ah ends a row; a text with n row ends has n + 1 rows, empty ones
@@ -273,6 +277,16 @@ struct Cell {
 }
 
 impl Cell {
+    /// "Hidden cells become blanks on black".
+    const HIDDEN: Cell = Cell {
+        character: ' ',
+        blank: true,
+        colour: WHITE,
+        background: BLACK,
+        italics: false,
+        underline: false,
+    };
+
     fn is_blank_on_black(&self) -> bool {
         self.blank && self.background == BLACK
     }
@@ -334,7 +348,35 @@ fn cells(row: &[Code], pen: &mut Pen) -> Vec<Cell> {
             colour = new;
         }
     }
+    hide_outside_boxes(row, &mut cells);
     cells
+}
+
+/// "in a teletext row that holds any 0Ah or 0Bh, a cell is shown only after a
+/// 0Bh, up to and with the next 0Ah of that row, or to its end; a further 0Bh
+/// inside changes nothing." Hidden colours and backgrounds have acted already.
+fn hide_outside_boxes(row: &[Code], cells: &mut [Cell]) {
+    if !has_boxes(row) {
+        return;
+    }
+    let mut inside = false;
+    // Box codes stand in teletext only, where each code has its cell.
+    for (&code, cell) in row.iter().zip(cells) {
+        if !inside {
+            *cell = Cell::HIDDEN;
+        }
+        // Both hold from the next cell: what opens a box is not in it, what
+        // ends it is.
+        match code {
+            Code::Control(START_BOX) => inside = true,
+            Code::Control(END_BOX) => inside = false,
+            _ => {}
+        }
+    }
+}
+
+fn has_boxes(row: &[Code]) -> bool {
+    row.contains(&Code::Control(END_BOX)) || row.contains(&Code::Control(START_BOX))
 }
 
 /// "Each [control] yields one blank cell."
@@ -545,6 +587,21 @@ mod tests {
         );
         // 1Dh with black, 00h as colour.
         assert_eq!(one_row(b"\x00\x1DA"), vec![(0, "A".into())]);
+    }
+
+    #[test]
+    fn boxes() {
+        assert_eq!(one_row(b"x\x0BA\x0Ax"), vec![(7, "A".into())]);
+        assert_eq!(one_row(b"A\x0A"), vec![]);
+        assert_eq!(one_row(b"x\x0BA"), vec![(7, "A".into())]);
+        // On red: the cell of the further 0Bh and that of the 0Ah are shown.
+        assert_eq!(one_row(b"\x01\x1D\x0BA\x0A\x0A"), vec![(9, "A ".into())]);
+        assert_eq!(one_row(b"\x01\x1D\x0B\x0BA\x0A\x0A"), vec![(9, " A ".into())]);
+        // Between two boxes: on black, and a colour is set there.
+        assert_eq!(
+            one_row(b"\x01\x1D\x0BA\x0Ax\x02\x0BB"),
+            vec![(9, "A ".into()), (7, "   ".into()), (10, "B".into())]
+        );
     }
 
     #[test]

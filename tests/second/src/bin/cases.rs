@@ -19,7 +19,7 @@ struct Case {
 
 fn main() {
     let input = std::env::args().nth(1).is_some_and(|word| word == "input");
-    for case in cases().into_iter().chain(open_cases()) {
+    for case in cases().into_iter().chain(open_cases()).chain(box_cases()) {
         if input {
             case.write();
         } else {
@@ -90,6 +90,55 @@ fn open_cases() -> Vec<Case> {
     ]
 }
 
+/// Document 02, request 2, both sides of each sentence.
+fn box_cases() -> Vec<Case> {
+    let boxed = |name, text: &[u8]| case(name, teletext(20, text));
+    vec![
+        // What is shown.
+        boxed("box-none", b"AB"),
+        boxed("box-start-first", b"\x0BAB"),
+        boxed("box-whole-row", b"\x0BAB\x0A"),
+        boxed("box-text-before", b"X\x0BAB\x0A"),
+        boxed("box-text-after", b"\x0BAB\x0AX"),
+        boxed("box-text-both", b"X\x0BAB\x0AX"),
+        boxed("box-nbsp-both", b"\xA0\x0BAB\x0A\xA0"),
+        boxed("box-two", b"X\x0BA\x0AX\x0BB\x0AX"),
+        boxed("box-further-start", b"X\x0BA\x0BX\x0AX"),
+        boxed("box-start-only", b"X\x0BAB"),
+        boxed("box-start-last", b"AB\x0B"),
+        boxed("box-end-only", b"AB\x0A"),
+        boxed("box-end-only-on-red", b"\x01\x1DAB\x0A"),
+        boxed("box-end-outside", b"\x0AX\x0BAB\x0A\x0A"),
+        // The cells of the box codes, and what is set while hidden.
+        boxed("box-start-on-red", b"\x01\x1D\x0BAB\x1C\x0A"),
+        boxed("box-start-twice-on-red", b"\x01\x1D\x0B\x0BAB\x1C\x0A"),
+        boxed("box-end-on-red", b"\x01\x1D\x0BAB\x0A"),
+        boxed("box-end-twice-on-red", b"\x01\x1D\x0BAB\x0A\x0A"),
+        boxed("box-two-on-red", b"\x01\x1D\x0BA\x0AX\x0BB\x0A"),
+        boxed("box-black-between", b"\x01\x1D\x0BA\x0A\x1C\x0BB\x0A"),
+        boxed("box-colour-before", b"\x01X\x0BAB\x0A"),
+        boxed("box-colour-between", b"\x0BA\x0A\x01\x0BB\x0A"),
+        boxed("box-colour-after", b"\x0BAB\x0A\x01X"),
+        // The next row.
+        boxed("box-next-row-none", b"X\x0BAB\x8ACD"),
+        boxed("box-next-row-start", b"X\x0BAB\x8AX\x0BCD\x0AX"),
+        boxed("box-next-row-end", b"X\x0BAB\x8ACD\x0A"),
+        // "hidden codes are still tested"
+        boxed("box-cells-64", &box_and_slug(64)),
+        boxed("box-cells-65", &box_and_slug(65)),
+        boxed("box-hidden-pair", b"\x0BAB\x0A\xC2e"),
+        boxed("box-hidden-bad-pair", b"\x0BAB\x0A\xC2q"),
+        boxed("box-hidden-code-08", b"\x0BAB\x0A\x08"),
+        boxed("box-hidden-code-09", b"\x09\x0BAB\x0A"),
+        boxed("box-accent-before-start", b"\xC2\x0Be"),
+        boxed("box-height-before", b"\x0D\x0BAB\x0AX"),
+        boxed("box-height-in-end-only", b"\x0DX\x0A\x8AAB"),
+        boxed("box-height-after-hidden", b"X\x0D\x0BAB\x0A"),
+        boxed("box-height-hidden-later", b"\x0BAB\x8A\x0D\x0BCD"),
+        case("box-in-open", open(b"11", 10, b"\x0BAB\x0A")),
+    ]
+}
+
 fn case(name: &'static str, file: Vec<u8>) -> Case {
     Case { name, mode: 1, file, room: ROOMY }
 }
@@ -124,6 +173,13 @@ fn row_with_ten_switches(cells: usize) -> Vec<u8> {
         row.push(*switch);
     }
     row.resize(10 + cells, b'A');
+    row
+}
+
+/// SLUG(cells).
+fn box_and_slug(cells: usize) -> Vec<u8> {
+    let mut row = b"\x0BAB\x0A".to_vec();
+    row.resize(cells, b'X');
     row
 }
 

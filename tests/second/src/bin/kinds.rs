@@ -19,6 +19,7 @@ fn kinds() -> Vec<(&'static str, Vec<u8>)> {
         ("single-height", file(25, &[tti(b"One row")])),
         ("double-height", file(25, &[tti(b"\x0D\x0B\x0BHi\x03you\x0A\x0A")])),
         ("colours", file(25, &[colours()])),
+        ("boxes", file(25, &boxes())),
         ("escapes", file(25, &[tti(b"\x0DTom & <Jerry> say \"it's ]]>\"")])),
         ("accents", file(25, &accents())),
         ("rows", file(25, &rows())),
@@ -41,6 +42,15 @@ fn colours() -> Tti {
         text.extend([code, 0x1D, 7 - code, b'c']);
     }
     tti(&text)
+}
+
+/// Text in front of a box, behind it and between two; a background that goes on
+/// over the edges; rows that show nothing beside one without boxes.
+fn boxes() -> [Tti; 2] {
+    [
+        tti(b"\x0Dslug\x0B\x0BIn\x0A<&>\x0Bboxes\x0A\x0Aslug"),
+        Tti { sn: 2, ..tti(b"\x01\x1D\x07\x0B\x0BOn red\x0A\x0A\x8ANo box\x8ANothing\x0A\x8A\x0B") },
+    ]
 }
 
 /// Accents, signs of the Latin table of one, two and three bytes in UTF-8, and

@@ -63,8 +63,9 @@ fn blocks() -> Vec<Tti> {
         Tti { vp: 23, ..tti(b"Welcome to the Caf\xC2e de l'\xC3Ile.") },
         // Two rows, a colour for each speaker; the colour code is a blank cell.
         Tti { vp: 21, jc: 1, ..tti(b"\x03Is the ferry late?\x8A\x06Only by a minute.") },
-        // Double height, boxes, a word in yellow.
-        Tti { vp: 20, ..tti(b"\x0D\x0B\x0BLand\x03ahoy!\x0A\x0A") },
+        // Double height, boxes, a word in yellow; the slug behind the end box is
+        // not shown.
+        Tti { vp: 20, ..tti(b"\x0D\x0B\x0BLand\x03ahoy!\x0A\x0A\x07Reel 2") },
         // A song: white on blue, U+266A at both ends.
         Tti { vp: 22, ..tti(b"\x04\x1D\x07\xD5 O\xC1u vont les bateaux? \xD5 \x1C") },
         // Letters of several languages.

@@ -89,7 +89,8 @@ pub(super) fn paper_case(dice: &mut Dice) -> Plan {
         }
         // An accent last in a block, its letter first in the next.
         8 | 9 => {
-            let blank = if open { dice.pick(&[0x20, 0x20, 0x80]) } else { dice.pick(&[0x20, 0x0B]) };
+            let blank =
+                if open { dice.pick(&[0x20, 0x20, 0x80]) } else { dice.pick(&[0x20, 0x0B, 0x0B, 0x0A]) };
             let mut first = vec![blank; dice.pick(&[0, 50, 111])];
             if first.len() > 60 {
                 first[55] = 0x8A;

@@ -39,7 +39,7 @@ fn add(dice: &mut Dice, plan: &mut Plan, sn: u16, position: u8, text: &[u8]) {
 }
 
 /// The plan with one subtitle of this text, and perhaps user blocks.
-fn with_text(dice: &mut Dice, mut plan: Plan, position: u8, text: &[u8]) -> Plan {
+pub(super) fn with_text(dice: &mut Dice, mut plan: Plan, position: u8, text: &[u8]) -> Plan {
     add(dice, &mut plan, 1, position, text);
     if dice.chance(20) {
         add_user_blocks(dice, &mut plan);

@@ -1,5 +1,6 @@
 //! The blocks of sets, and user blocks.
 
+use super::boxes::{END, START};
 use super::header::Header;
 use super::plan::{Block, Plan, CF, EBN, JC, LAST, SGN, SN, TCI, TCO, TEXT, USER_DATA, VP};
 use super::switches::SWITCHES;
@@ -25,13 +26,14 @@ pub(super) fn pieces(dice: &mut Dice, text: &[u8]) -> Vec<Vec<u8>> {
                 Some(end) => end + 1,
                 None => longest,
             },
-            // Before a switch, which takes at least one code, and after one.
-            4 => match rest[..longest].iter().skip(1).position(is_switch) {
+            // Before a switch or a box code, which takes at least one code, and
+            // after one.
+            4 => match rest[..longest].iter().skip(1).position(is_switch_or_box) {
                 Some(before) => before + 1,
                 None => longest,
             },
-            5 => match rest[..longest].iter().position(is_switch) {
-                Some(switch) => switch + 1,
+            5 => match rest[..longest].iter().position(is_switch_or_box) {
+                Some(code) => code + 1,
                 None => longest,
             },
             _ => longest,
@@ -55,8 +57,8 @@ pub(super) fn pieces(dice: &mut Dice, text: &[u8]) -> Vec<Vec<u8>> {
     pieces
 }
 
-fn is_switch(code: &u8) -> bool {
-    SWITCHES.contains(code)
+fn is_switch_or_box(code: &u8) -> bool {
+    SWITCHES.contains(code) || matches!(*code, END | START)
 }
 
 /// The text field of a block: the piece, then 8Fh and what does not count.

@@ -1,5 +1,6 @@
 //! Texts of good sets, and fragments that are refused.
 
+use super::boxes::{boxed_row, END, START};
 use super::switches::open_row;
 use crate::characters::composed;
 use crate::dice::Dice;
@@ -63,7 +64,7 @@ pub(super) fn bad_fragment(dice: &mut Dice, display: Display) -> Vec<u8> {
     }
 }
 
-/// Codes that make rows of many colours.
+/// Codes that make rows of many colours, and boxes.
 pub(super) const SOUP: &[u8] =
     b"\x00\x01\x02\x03\x04\x05\x06\x07\x01\x07\x0A\x0B\x1C\x1D\x1D\x1C   ABab\xA0&";
 
@@ -91,7 +92,10 @@ pub(super) fn row_of(dice: &mut Dice, display: Display, length: usize) -> Vec<u8
 }
 
 fn teletext_row(dice: &mut Dice, length: usize) -> Vec<u8> {
-    let flavour = dice.below(8);
+    let flavour = dice.below(11);
+    if flavour >= 8 {
+        return boxed_row(dice, length);
+    }
     let mut row = Vec::with_capacity(length + 8);
     for cell in 0..length {
         match flavour {
@@ -116,6 +120,11 @@ fn teletext_row(dice: &mut Dice, length: usize) -> Vec<u8> {
                 _ => row.push(dice.byte_between(b'A', b'Z')),
             },
         }
+    }
+    // Boxes hide what stands outside them, so most rows of many colours have
+    // none.
+    if flavour > 1 && dice.chance(60) {
+        row.iter_mut().filter(|code| matches!(**code, END | START)).for_each(|code| *code = b' ');
     }
     row
 }
