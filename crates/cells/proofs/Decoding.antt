@@ -31,14 +31,14 @@ use Rattle.rows.proofs.RowEnds.{row-end, row-more}
 use Rattle.cells.specs.Fronts.{boxedStart, frontAfter, frontFrom}
 use Rattle.cells.specs.Arrays.{character, packedLook, hiddenLook, places, kept, penOf}
 use Rattle.cells.proofs.Keeping.{kept-nil, kept-then}
-use Rattle.cells.specs.Decoded.{tokensFrom, rowAt, boxedRowAt, runCell, runCells, Drawn}
+use Rattle.cells.specs.Decoded.{tokensFrom, rowTokens, rowAt, runCell, runCells, Drawn}
 
 first-of : {A : Type 0} {P : A → Type 0} {x : A} {xs : List A} → All P (x ∷ xs) → P x
 first-of (cons p h) = p
 
 -- the cells of a row have looks of three bits each
 pub row-sound : (text : List ℕ) (start : ℕ) (before : Look) → All Sound (rowAt text start before)
-unfolding rowAt cellRows
+unfolding cellRows
 row-sound text start before =
     let ts = tokensFrom text start in
     first-of (rw (rows-first (breaksPaired 1 ts) ts) at (rows-sound 1 before (drop start text)))
@@ -168,21 +168,23 @@ module _
     {text : List ℕ} {start first : ℕ} {characters₀ looks₀ characters looks : List ℕ} {pen : ℕ} {hidden : Bool} {front i n : ℕ}
     (a : Ahead text start first characters₀ looks₀ characters looks pen hidden front i n) where
   -- where no token of the row is left
-  ahead-none : firstRow (tokensFrom text i) ≡ [] → {before next : ℕ} {ended : Bool} → first ≡ pack (boxedStart (unpack before) .look)
+  ahead-none : firstRow (tokensFrom text i) ≡ [] → (before : ℕ) {next : ℕ} {ended : Bool} → first ≡ pack (boxedStart (unpack before) .look)
       → ended ≡ isEnded (tokensFrom text start) → next ≡ afterRowAt text start
-      → Drawn text start before characters₀ looks₀ characters looks (record { row = record { cells = n; ended = ended; next = next; look = pen }; front = front })
-  unfolding boxedRowAt cellsFrom penEnd frontFrom stored
-  ahead-none f {before} e ended next =
+      → Drawn text start (boxedStart (unpack before)) characters₀ looks₀ characters looks (record { cells = n; ended = ended; next = next; look = pen })
+      × (front ≡ frontFrom 0 0 (rowTokens text start))
+  unfolding cellsFrom penEnd frontFrom stored
+  ahead-none f before e ended next =
       let s = ap (λ (k : ℕ). penOf k false) e ∙ start-pen before in
-      let l = rw (f, s) at (a .left) in
-      record {
-        held = (sym (kept-nil characters _ n) ∙ l .on-characters, sym (kept-nil looks _ n) ∙ l .on-looks);
-        count = omega (arith, l .count);
-        ended = ended;
-        next = next;
-        after = sym (pack-unpack pen (a .small)) ∙ ap (λ (p : Pen). pack (p .look)) (rw (f, s) at (a .after));
-        front = rw f at (a .found);
-      }
+      let l = rw (f, s) at (a .left) in (
+        record {
+          held = (sym (kept-nil characters _ n) ∙ l .on-characters, sym (kept-nil looks _ n) ∙ l .on-looks);
+          count = omega (arith, l .count);
+          ended = ended;
+          next = next;
+          after = sym (pack-unpack pen (a .small)) ∙ ap (λ (p : Pen). pack (p .look)) (rw (f, s) at (a .after));
+        },
+        rw f at (a .found),
+      )
 
   -- at a token that was read
   module _ {r : Reading} (o : ReadOn text i r) where
@@ -207,11 +209,11 @@ module _
           small = rw h (next-small (r .token) pen);
         }
 
-    pub ahead-row-end : isRowEnd (r .token) ≡ true → {before : ℕ} → first ≡ pack (boxedStart (unpack before) .look)
-        → Drawn text start before characters₀ looks₀ characters looks (record { row = record { cells = n; ended = true; next = r .next; look = pen }; front = front })
-    ahead-row-end e h =
+    pub ahead-row-end : isRowEnd (r .token) ≡ true → (before : ℕ) → first ≡ pack (boxedStart (unpack before) .look)
+        → Drawn text start (boxedStart (unpack before)) characters₀ looks₀ characters looks (record { cells = n; ended = true; next = r .next; look = pen }) × (front ≡ frontFrom 0 0 (rowTokens text start))
+    ahead-row-end e before h =
         let ts = tokensFrom text (r .next) in
-        ahead-none (ap firstRow (o .first) ∙ first-end (r .token) ts e) h (sym (ap isEnded (o .first) ∙ ended-end (r .token) ts e) ∙ a .ended) (sym (row-end o e) ∙ a .next)
+        ahead-none (ap firstRow (o .first) ∙ first-end (r .token) ts e) before h (sym (ap isEnded (o .first) ∙ ended-end (r .token) ts e) ∙ a .ended) (sym (row-end o e) ∙ a .next)
 
   -- over a run of plain codes
   pub ahead-run : {e m : ℕ} {characters′ looks′ : List ℕ}
@@ -238,8 +240,8 @@ module _
       }
 
   -- at the text's end
-  pub ahead-text-end : length text ≤ i → {before : ℕ} → first ≡ pack (boxedStart (unpack before) .look)
-      → Drawn text start before characters₀ looks₀ characters looks (record { row = record { cells = n; ended = false; next = i; look = pen }; front = front })
-  ahead-text-end h e =
+  pub ahead-text-end : length text ≤ i → (before : ℕ) → first ≡ pack (boxedStart (unpack before) .look)
+      → Drawn text start (boxedStart (unpack before)) characters₀ looks₀ characters looks (record { cells = n; ended = false; next = i; look = pen }) × (front ≡ frontFrom 0 0 (rowTokens text start))
+  ahead-text-end h before e =
       let t = tokens-end text i h in
-      ahead-none (ap firstRow t ∙ first-none) e (sym (ap isEnded t ∙ ended-none) ∙ a .ended) (sym (row-over text i h) ∙ a .next)
+      ahead-none (ap firstRow t ∙ first-none) before e (sym (ap isEnded t ∙ ended-none) ∙ a .ended) (sym (row-over text i h) ∙ a .next)

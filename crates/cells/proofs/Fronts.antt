@@ -15,10 +15,10 @@ use Rattle.meaning.specs.declared.Look.{Look}
 use Rattle.meaning.specs.Lists.{any}
 use Rattle.meaning.specs.Codes.{takesCell, isControlOf, isBoxStart, isBoxEnd, isBoxCode}
 use Rattle.meaning.specs.Looks.{bit}
-use Rattle.meaning.specs.Cells.{Pen, lookNext, hiddenNext, hiddenCell, hiddenIf, cellOf, penAfter, cellsOf, cellsFrom, penEnd, rowStart, cellsOfRow, lookAfterRow}
+use Rattle.meaning.specs.Cells.{Pen, lookNext, hiddenNext, hiddenCell, penAfter, cellsOf, cellsFrom, penEnd, rowStart, cellsOfRow, lookAfterRow}
 use Rattle.meaning.proofs.Logic.{by-test, false-not-true, or-second, or-none}
 use Rattle.meaning.proofs.ListLaws.{any-cons, none-split}
-use Rattle.laws.proofs.Boxes.{same-height}
+use Rattle.laws.proofs.Boxes.{same-height, hidden-cell}
 use Rattle.cells.specs.Fronts.{boxedStart, frontAfter, frontFrom}
 
 -- after a box code cells are hidden or not, whatever they were before; every other token leaves it as it is
@@ -42,12 +42,8 @@ box-takes (Switch c) e = absurd (false-not-true e)
 box-takes RowEnd e = refl
 box-takes Unlisted e = refl
 
-abbrev pub pen : Look → Bool → Pen
+abbrev pen : Look → Bool → Pen
 pen l hidden = record { look = l; hidden = hidden }
-
-pub hidden-cell : (t : Token) (l : Look) → cellOf t (pen l true) ≡ hiddenCell (l .double)
-unfolding cellOf hiddenIf
-hidden-cell t l = ap hiddenCell (same-height t l .0)
 
 after-box : (t : Token) (l : Look) → isBoxCode t ≡ true → penAfter t (pen l true) ≡ penAfter t (pen l false)
 unfolding penAfter

@@ -7,14 +7,13 @@ use mathlib.Core.List.{List, [], _∷_}
 use lib.ListN.{length, take}
 use Rattle.meaning.specs.declared.Token.{Token}
 use Rattle.meaning.specs.Looks.{unpack}
-use Rattle.meaning.specs.Rows.{firstRow}
 use Rattle.meaning.specs.Cells.{Pen, penAfter, penEnd, rowStart, lookAfterRow}
 use Rattle.meaning.proofs.LookLaws.{ThreeBits, start-bits, unpack-pack}
 use Rattle.laws.proofs.CellFacts.{next-bits}
 use Rattle.output.proofs.Laws.{length-stored}
 use Rattle.cells.specs.declared.RowRead.{RowRead}
 use Rattle.cells.specs.Arrays.{places, cellsAt}
-use Rattle.cells.specs.Decoded.{tokensFrom, rowAt, Decoded}
+use Rattle.cells.specs.Decoded.{rowTokens, rowAt, Decoded}
 use Rattle.cells.proofs.Decoding.{row-sound}
 use Rattle.cells.proofs.ReadBack.{read-back}
 
@@ -24,7 +23,7 @@ end-bits p [] h = h
 end-bits p (t ∷ ts) h = end-bits (penAfter t p) ts (next-bits t (p .look) h)
 
 module _
-    {text : List ℕ} {start before : ℕ} {characters looks characters′ looks′ : List ℕ} {r : RowRead}
+    {text : List ℕ} {start : ℕ} (before : ℕ) {characters looks characters′ looks′ : List ℕ} {r : RowRead}
     (d : Decoded text start before characters looks characters′ looks′ r) where
   -- the first cells of a row that was decoded, as many as the arrays have places for
   pub decoded-cells : (n : ℕ) → n ≤ r .cells → n ≤ length characters → n ≤ length looks
@@ -40,8 +39,8 @@ module _
   )
 
   -- the look after the row
-  pub decoded-look : unpack (r .look) ≡ lookAfterRow (unpack before) (firstRow (tokensFrom text start))
+  pub decoded-look : unpack (r .look) ≡ lookAfterRow (unpack before) (rowTokens text start)
   unfolding rowStart
   decoded-look =
-      let row = firstRow (tokensFrom text start) in
+      let row = rowTokens text start in
       ap unpack (d .after) ∙ unpack-pack _ (end-bits (rowStart row (unpack before)) row (start-bits (unpack before)))

@@ -5,12 +5,13 @@ ghost use mathlib.Core.Path.{_≡_};
 ghost use mathlib.Core.List.{[], _∷_, map};
 ghost use Prim.Native.Nat.{_+_, _-_, _<_, _≤_, _^_, min};
 ghost use lib.ListN.{length, take, drop, replicate};
-ghost use Rattle.meaning.specs.Looks.{lookCount, bit};
+ghost use Rattle.meaning.specs.Looks.{lookCount, bit, unpack};
 ghost use Rattle.meaning.specs.Codes.{takesCell};
 ghost use Rattle.meaning.specs.Cells.{blank, cellsOf};
 ghost use Rattle.output.specs.Output.{stored};
 ghost use Rattle.cells.specs.Arrays.{character, packedLook, hiddenLook, penOf, CellsStored};
-ghost use Rattle.cells.specs.Decoded.{runCells, Drawn, Decoded};
+ghost use Rattle.cells.specs.Fronts.{boxedStart, frontFrom};
+ghost use Rattle.cells.specs.Decoded.{rowTokens, runCells, Drawn, Decoded};
 use meaning::Token;
 
 mod drawing;
@@ -157,7 +158,8 @@ fn draw_row(
     characters: &mut [u16],
     looks: &mut [u16],
 ) -> RowDrawn
-    ensures { λ r. ⌜ Drawn (now (text .entry)) start before (now (characters .entry)) (now (looks .entry)) (now (characters .exit)) (now (looks .exit)) r ⌝ }
+    ensures row { λ r. ⌜ Drawn (now (text .entry)) start (boxedStart (unpack before)) (now (characters .entry)) (now (looks .entry)) (now (characters .exit)) (now (looks .exit)) (r .row) ⌝ }
+    ensures front { λ r. ⌜ r .front ≡ frontFrom 0 0 (rowTokens (now (text .entry)) start) ⌝ }
 {
     let mut pen = drawing::row_start(before);
     let mut hidden = false;

@@ -84,10 +84,14 @@ unfolding lookEnd
 height-end l [] = refl
 height-end l (t ∷ ts) = height-end (lookNext t l) ts ∙ same-height t l .1
 
+pub hidden-cell : (t : Token) (l : Look) → cellOf t (record { look = l; hidden = true }) ≡ hiddenCell (l .double)
+unfolding cellOf hiddenIf
+hidden-cell t l = ap hiddenCell (same-height t l .0)
+
 cell-at : (hidden : Bool) (t : Token) (l : Look)
     → cellOf t (record { look = l; hidden = hidden }) ≡ cond hidden (hiddenCell (l .double)) (record { character = cellCharacter t; look = lookHere t l })
 unfolding cellOf hiddenIf
-cell-at true t l = ap hiddenCell (same-height t l .0)
+cell-at true t l = hidden-cell t l
 cell-at false t l = refl
 
 pub boxed-text : BoxedText

@@ -95,14 +95,14 @@ pub row-done :
     → Decoded text start before characters looks characters′ looks′ d → length characters ≡ rowLimit → length looks ≡ rowLimit
     → PiecesLaid buf on t (map span (rowSpans (cellsAt characters′ looks′ 0 (cut characters′ looks′ (d .cells))))) buf′ on′ r
     → RowDone text start before buf on t buf′ on′ (record { tally = r; ended = d .ended; next = d .next; look = d .look })
-unfolding cutRow rowAt
+unfolding cutRow
 row-done {text} {start} {before} {characters} {looks} {characters′} {looks′} {d = d} k h l p =
-    let m : cut characters′ looks′ (d .cells) ≡ min (d .cells) rowLimit = omega (arith, decoded-lengths k) in
+    let m : cut characters′ looks′ (d .cells) ≡ min (d .cells) rowLimit = omega (arith, decoded-lengths before k) in
     let c : cellsAt characters′ looks′ 0 (cut characters′ looks′ (d .cells)) ≡ take rowLimit (rowAt text start (unpack before)) =
-    rw m (decoded-cells k (min (d .cells) rowLimit) (omega arith) (omega arith) (omega arith) ∙ rw (k .count) (cut-row (rowAt text start (unpack before)))) in
+    rw m (decoded-cells before k (min (d .cells) rowLimit) (omega arith) (omega arith) (omega arith) ∙ rw (k .count) (cut-row (rowAt text start (unpack before)))) in
     record {
       laid = rw c at p;
       ended = k .ended;
       next = k .next;
-      after = decoded-look k;
+      after = decoded-look before k;
     }

@@ -8,7 +8,8 @@ use Rattle.cells.proofs.decode_row.Tie as tie
 returns : tie.Need-returns
 returns c =
     let h = c .before .before .before .before in
-    decoded (h .before .before .before .before .before .before .before .before .draw-row .ensures) (h .put-hidden .ensures)
+    let d = h .before .before .before .before .before .before .before .before .draw-row .ensures in
+    decoded _ (d .0) (d .1) (h .put-hidden .ensures)
 
 pub decode-row-spec : {M : Type 1} → statement M
 decode-row-spec = tie.close (tie.spec (λ c κs. search needs) (λ c κs. search needs) (λ c. search needs) (λ c. search needs) returns)

@@ -25,7 +25,7 @@ returns c =
     let t = e .before .before in
     let o = read-on (t .token-at .ensures) (t .before .loop-test .taken) in
     let l = t .before .before in
-    rw (c .drawn .ensures) (ahead-row-end (l .loop .inv) o (sym (e .before .is-row-end .ensures) ∙ e .if1 .taken) (l .before .row-start .ensures))
+    rw (c .drawn .ensures) (ahead-row-end (l .loop .inv) o (sym (e .before .is-row-end .ensures) ∙ e .if1 .taken) _ (l .before .row-start .ensures))
 
 put-cell-requires : tie.Need-put-cell-requires Inv-loop μ-loop
 put-cell-requires c κs =
@@ -71,7 +71,7 @@ loop-again c =
 returns-2 : tie.Need-returns-2 Inv-loop μ-loop
 returns-2 c =
     let t = c .before in
-    rw (c .drawn2 .ensures) (ahead-text-end (t .before .loop .inv) (t .loop-test .left) (t .before .before .row-start .ensures))
+    rw (c .drawn2 .ensures) (ahead-text-end (t .before .loop .inv) (t .loop-test .left) _ (t .before .before .row-start .ensures))
 
 pub draw-row-spec : {M : Type 1} → statement M
 draw-row-spec =

@@ -4,8 +4,8 @@ use mathlib.Core.Path.{sym, _∙_}
 use borrow.Author.Needs.{needs}
 use borrow.Author.Tests.{not-true, not-false}
 use Rattle.meaning.specs.Cells.{hiddenIf, cellOf, cellsOf}
+use Rattle.laws.proofs.Boxes.{hidden-cell}
 use Rattle.cells.proofs.Keeping.{kept-nil}
-use Rattle.cells.proofs.Fronts.{hidden-cell}
 use Rattle.cells.specs.Arrays.{character, packedLook}
 use Rattle.cells.proofs.put_cell.Statement.{statement}
 use Rattle.cells.proofs.put_cell.Tie as tie
