@@ -40,15 +40,15 @@ fn whole_header(b: &[u8]) -> Header
     ensures { λ r. ⌜ r ≡ headerOf (now (b .entry)) ⌝ }
 {
     Header {
-        sgn: b[0],
-        sn: number(b[1], b[2]),
-        ebn: b[3],
-        cs: b[4],
-        tci: time_at(b, 5),
-        tco: time_at(b, 9),
-        vp: b[13],
-        jc: b[14],
-        cf: b[15],
+        sgn: b[Header::SGN_AT],
+        sn: number(b[Header::SN_AT], b[1 + Header::SN_AT]),
+        ebn: b[Header::EBN_AT],
+        cs: b[Header::CS_AT],
+        tci: time_at(b, Header::TCI_AT),
+        tco: time_at(b, Header::TCO_AT),
+        vp: b[Header::VP_AT],
+        jc: b[Header::JC_AT],
+        cf: b[Header::CF_AT],
     }
 }
 

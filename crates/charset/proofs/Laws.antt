@@ -15,9 +15,11 @@ use Rattle.meaning.specs.declared.Token.the-variants.{Character}
 use Rattle.meaning.specs.Characters.{accent}
 use Rattle.meaning.specs.Codes.{isAccent, codeToken, pairToken, tokens, isRowEnd}
 use Rattle.meaning.specs.Lists.{takeWhile}
+use Rattle.meaning.specs.TextRules.{firstSize}
 use Rattle.meaning.proofs.Logic.{by-test, by-le}
 use Rattle.meaning.proofs.ListLaws.{while-on, while-off, take-while, while-short, while-more, while-stops, while-ends}
 use Rattle.meaning.proofs.Tokens.{tokens-pair as first-pair, tokens-code}
+use Rattle.meaning.proofs.TextPlaces.{size-pair, size-code, size-last}
 use Rattle.charset.specs.declared.Reading.{Reading}
 use Rattle.charset.specs.Reading.{isPairAt, readingAt, tokenAt, nextAt, afterRowAt}
 use Rattle.charset.specs.Plain.{isPlain, plainEnd}
@@ -59,12 +61,27 @@ module _ (s : List ℕ) (i : ℕ) where
       (λ a. first-last (getD s i 0) (drop (i + 1) s) (drop-of-length-le s (ltb-false (i + 1) (length s) (rw a at p))))
       (λ a. first-single (getD s i 0) (drop (i + 1) s) a))
 
+  -- the bytes that they take
+  size-two : i + 1 < length s → isAccent (getD s i 0) ≡ true → firstSize (drop i s) ≡ 2
+  size-two h a =
+      let here : i < length s = omega arith in
+      rw (drop-next s i here, drop-next s (i + 1) h) (size-pair (getD s i 0) (getD s (i + 1) 0) (drop (i + 1 + 1) s) a)
+
+  size-one : i < length s → isPairAt s i ≡ false → firstSize (drop i s) ≡ 1
+  unfolding isPairAt
+  size-one h p =
+      rw (drop-next s i h)
+      (by-test (isAccent (getD s i 0))
+      (λ a. size-last (getD s i 0) (drop (i + 1) s) (drop-of-length-le s (ltb-false (i + 1) (length s) (rw a at p))))
+      (λ a. size-code (getD s i 0) (drop (i + 1) s) a))
+
 -- What the reading r at a position i of a text s tells: the first of the tokens from i on, that the others are those from
--- the reading's next position on, where that lies, and where the row ends.
+-- the reading's next position on, where that lies, how many bytes were read, and where the row ends.
 pub record ReadOn (s : List ℕ) (i : ℕ) (r : Reading) : Type 0 where
   pub first : tokens (drop i s) ≡ r .token ∷ tokens (drop (r .next) s)
   pub on : i < r .next
   pub within : r .next ≤ length s
+  pub size : r .next ≡ i + firstSize (drop i s)
   pub row : afterRowAt s i ≡ cond (isRowEnd (r .token)) (r .next) (afterRowAt s (r .next))
 
 module _ (s : List ℕ) (i : ℕ) (h : i < length s) where
@@ -74,11 +91,17 @@ module _ (s : List ℕ) (i : ℕ) (h : i < length s) where
       (λ a k. tokens-pair s i k a)
       (λ p. tokens-single s i h p)
 
+  size-at : nextAt s i ≡ i + firstSize (drop i s)
+  size-at =
+      by-reading s i (λ (r : Reading). r .next ≡ i + firstSize (drop i s)) h
+      (λ a k. rw (size-two s i k a))
+      (λ p. rw (size-one s i h p))
+
   -- where the text has a code at i
   pub read-at : ReadOn s i (readingAt s i)
   read-at =
       let o = next-on s i h in
-      record { first = first-at; on = o .0; within = o .1; row = row-step s i h }
+      record { first = first-at; on = o .0; within = o .1; size = size-at; row = row-step s i h }
 
 -- The law for loops over a text, of the result r of a call of `token_at`.
 pub read-on : {s : List ℕ} {i : ℕ} {r : Reading} → r ≡ readingAt s i → i < length s → ReadOn s i r

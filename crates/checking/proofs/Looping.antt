@@ -36,7 +36,7 @@ module _ (f : Format) (rule : BlockSet → Refusal) (file : List ℕ) (n room : 
       (text : List ℕ) → length text ≡ room
       → Passed text (body .out) (body .marks)
       (record {
-        refusal = record { number = 0; place = 0 };
+        refusal = record { number = 0; place = 0; offset = 0 };
         sets = record { least = 0; current = Between };
         counts = record { subtitles = 0; comments = 0; continuations = 0; users = 0 };
         tally = body .tally;

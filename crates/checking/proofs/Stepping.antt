@@ -100,7 +100,7 @@ module _ (n : ℕ) (w : Pass) (text out : List ℕ) (marks : List Bool) where
   module _ (e : isGood (w .refusal) ≡ true) where
     pub ended-open :
         isOpen (assemblyOf (w .sets) text) ≡ true
-        → outcomeOf (record { refusal = record { number = 7; place = n }; sets = w .sets; counts = w .counts; tally = w .tally }) text out marks
+        → outcomeOf (record { refusal = record { number = 7; place = n; offset = 0 }; sets = w .sets; counts = w .counts; tally = w .tally }) text out marks
         ≡ finish n (outcomeOf w text out marks)
     unfolding finish
     ended-open o = outcome-bad _ text out marks (bad-number _ (λ z. omega arith)) ∙ rw (outcome-good w text out marks e, o, finish)

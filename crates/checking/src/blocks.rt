@@ -48,6 +48,7 @@ impl Pass {
             return self.refused(Refusal {
                 number: 7,
                 place: n,
+                offset: 0,
             });
         }
         self

@@ -11,7 +11,7 @@ use Rattle.meaning.specs.declared.Format.{Format}
 use Rattle.meaning.specs.Refusals.{noRefusal}
 use Rattle.meaning.specs.Lists.{field}
 use Rattle.meaning.specs.Codes.{tokens}
-use Rattle.meaning.specs.Rows.{textRule}
+use Rattle.meaning.specs.TextRules.{textRule}
 use Rattle.meaning.specs.Blocks.{isComment}
 use Rattle.meaning.specs.Walk.{setRule}
 use Rattle.meaning.specs.Document.{Paragraph, writeParagraph, paragraphLooks, documentLooks}
@@ -64,7 +64,7 @@ module _ (f : Format) (s : Set) (text : List ℕ) {comment : Bool} (co : comment
   rule-comment e = rw (sym co, e)
 
   pub rule-subtitle :
-      {r : Refusal} {t : List ℕ} → comment ≡ false → t ≡ field 0 (s .size) text → r ≡ textRule f (s .place) (s .first .vp) (tokens t)
+      {r : Refusal} {t : List ℕ} → comment ≡ false → t ≡ field 0 (s .size) text → r ≡ textRule f (s .place) (s .first .vp) t
       → r ≡ setRule f (setOf s text)
   unfolding setRule setOf setWith field
   rule-subtitle e d g = rw (sym co, e) (g ∙ rw d)

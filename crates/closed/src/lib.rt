@@ -17,7 +17,7 @@ pub fn set_rule(f: Format, text: &[u8], set: Set) -> Refusal
     if h.is_comment() {
         return Refusal::NONE;
     }
-    rows::text_rule(block::field(text, 0, set.size), f, set.place, h.vp)
+    faults::text_rule(block::field(text, 0, set.size), f, set.place, h.vp)
 }
 
 pub fn lay(f: Format, text: &[u8], out: &mut [u8], marks: &mut [bool], set: Set, t: Tally) -> Tally

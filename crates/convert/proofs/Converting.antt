@@ -15,18 +15,18 @@ use Rattle.meaning.specs.Refusals.{noRefusal, isGood}
 use Rattle.meaning.specs.Lists.{joined}
 use Rattle.meaning.specs.Gsi.{formatOf, blockCount, fileRule}
 use Rattle.meaning.specs.Codes.{tokens}
-use Rattle.meaning.specs.Rows.{textRule}
+use Rattle.meaning.specs.TextRules.{textRule}
 use Rattle.meaning.specs.Blocks.{isComment}
 use Rattle.meaning.specs.Sets.{BlockSet}
 use Rattle.meaning.specs.Walk.{Subtitle, Progress, Outcome, finish, walk, setRule, subtitleOf, subtitlesFrom, withSubtitles, outcome}
 use Rattle.meaning.specs.Walk.Outcome.{refused, accepted}
 use Rattle.meaning.specs.Document.{writeParagraph, documentLooks, render, documentSpans, afterParagraphs}
-use Rattle.meaning.specs.Conversion.{paragraphOf, documentOf, refusedAnswer, acceptedAnswer, answerBy, answerTo, answer, output}
+use Rattle.meaning.specs.Conversion.{paragraphOf, documentOf, tooLong, refusalTo, refusal, refusedAnswer, acceptedAnswer, fitsIn, answerBy, answerTo, answer, output}
 use Rattle.laws.specs.Demands.{FewestSpans}
-use Rattle.meaning.proofs.Logic.{by-test}
+use Rattle.meaning.proofs.Logic.{by-test, by-cond}
 use Rattle.laws.proofs.Gathering.{mapped, finish-mapped, walk-mapped, refused-not, finish-accepted}
 use Rattle.laws.proofs.Accepted.{taken, rule-kept}
-use Rattle.laws.proofs.Refused.{refusal-bad, refused-untouched}
+use Rattle.laws.proofs.Refused.{refusal-bad, refused-untouched, refusal-answered}
 use Rattle.laws.proofs.Bounds.{document-bound, spans-bound}
 use Rattle.laws.proofs.OwnProfile.{Bytes}
 use Rattle.laws.proofs.Demand3.{fewest-spans}
@@ -49,7 +49,7 @@ use Rattle.writing.proofs.Laws.{walk-lays}
 use Rattle.convert.proofs.Marking.{looks-right}
 
 paragraph-whole :
-    (f : Format) (place : ℕ) (h : Header) (text : List ℕ) → isGood (textRule f place (h .vp) (tokens text)) ≡ true
+    (f : Format) (place : ℕ) (h : Header) (text : List ℕ) → isGood (textRule f place (h .vp) text) ≡ true
     → paragraphFor f h text ≡ paragraphOf f (subtitleOf (f .mode) h (tokens text))
 unfolding paragraphFor paragraphOf subtitleOf
 paragraph-whole f place h text e = rw (content-whole f place (h .vp) text e)
@@ -125,19 +125,28 @@ module _ (mode : ℕ) (file : List ℕ) where
       ap (λ (n : ℕ). answerBy room (p .counts) n (past 0 (length (documentLooks (map (paragraphOf (formatOf mode file)) (p .gathered)))))) (length-right p c)
       ∙ ap (answerBy room (p .counts) (length (render (documentOf (formatOf mode file) (p .gathered))))) (spans-right p c)
 
-  -- pass one
-  abbrev Answered : ℕ → Answer → Marks → Type 0
-  Answered room a marks =
+  -- pass one tells the offset of a refusal; there is none where a file keeps the rules 1 to 15
+  offset-right :
+      (room : ℕ) (g : List Subtitle → Body) (o : Outcome (List Subtitle))
+      → checkedOf (mapped g o) .refusal .offset ≡ refusalTo (formatOf mode file) room o .offset
+  unfolding checkedOf mapped refusalTo noRefusal
+  offset-right room g (refused r) = refl
+  offset-right room g (accepted p) =
+      by-cond (λ (r : Refusal). 0 ≡ r .offset) (fitsIn room (length (render (documentOf (formatOf mode file) (p .gathered))))) noRefusal tooLong refl refl
+
+  abbrev Answered : ℕ → Answer → ℕ → Marks → Type 0
+  Answered room a offset marks =
       (a ≡ answer mode file room)
-      × ((p : Progress (List Subtitle)) → outcome mode file ≡ accepted p → marks .on ≡ marksOf (formatOf mode file) (p .gathered))
+      × ((offset ≡ refusal mode file room .offset)
+      × ((p : Progress (List Subtitle)) → outcome mode file ≡ accepted p → marks .on ≡ marksOf (formatOf mode file) (p .gathered)))
 
   module _ {rule : Refusal} (e : rule ≡ fileRule mode file) where
-    pub answered-rule : (room : ℕ) {a : Answer} (marks : Marks) → (rule .number ≡ 0 → ⊥) → a ≡ refusedAnswer rule 0 → Answered room a marks
-    unfolding outcome answer answerTo
+    pub answered-rule : (room : ℕ) {a : Answer} (marks : Marks) → (rule .number ≡ 0 → ⊥) → a ≡ refusedAnswer rule 0 → Answered room a (rule .offset) marks
+    unfolding outcome answer answerTo refusal refusalTo
     answered-rule room marks z d =
         let b : isGood (fileRule mode file) ≡ false = rw (sym e) (bad-number rule z) in
         let o : outcome mode file ≡ refused rule = rw (b, outcome) (ap refused (sym e)) in
-        (d ∙ rw o, λ p c. absurd (refused-not (sym o ∙ c)))
+        (d ∙ rw o, (rw o, λ p c. absurd (refused-not (sym o ∙ c))))
 
     module _ (z : rule .number ≡ 0) where
       good : isGood (fileRule mode file) ≡ true
@@ -145,13 +154,16 @@ module _ (mode : ℕ) (file : List ℕ) where
 
       pub answered-walk :
           (room : ℕ) {a : Answer} {f : Format} {n : ℕ} (c : Checked) → f ≡ formatOf mode file → n ≡ blockCount file
-          → c ≡ checkedOf (finish n (walk f (setRule f) (laySet f) emptyBody file n)) → a ≡ answerOf f room c → Answered room a (c .marks)
-      unfolding answer checkedOf mapped bodyOf laid marksOf
+          → c ≡ checkedOf (finish n (walk f (setRule f) (laySet f) emptyBody file n)) → a ≡ answerOf f room c → Answered room a (c .refusal .offset) (c .marks)
+      unfolding answer refusal checkedOf mapped bodyOf laid marksOf
       answered-walk room c g b s d =
           let h : Here emptyBody = laid-nothing _ _ _ (omega arith) (omega arith) (omega arith) in
           let x : c ≡ checkedOf (mapped (bodyOf (formatOf mode file) emptyBody) (outcome mode file)) = s ∙ rw (g, b) (ap checkedOf (outcome-laid emptyBody h good)) in (
             d ∙ rw (x, g) (answer-right room (outcome mode file) refl),
-            λ p o. ap (λ (k : Checked). k .marks .on) x ∙ rw o,
+            (
+              ap (λ (k : Checked). k .refusal .offset) x ∙ offset-right room _ (outcome mode file),
+              λ p o. ap (λ (k : Checked). k .marks .on) x ∙ rw o,
+            ),
           )
 
 -- pass two
@@ -181,13 +193,19 @@ module _ (f : Format) (room : ℕ) (c : Checked) {a : Answer} where
   told-refused z d = d ∙ rw (bad-number (c .refusal) z, answerOf)
 
   module _ (z : c .refusal .number ≡ 0) {n : ℕ} (e : n ≡ measured (f .rate) (c .marks .on) (c .tally .at)) where
-    pub told-long : room < n → a ≡ refusedAnswer (record { number = 16; place = 0 }) n → a ≡ answerOf f room c
+    pub told-long : room < n → a ≡ refusedAnswer tooLong n → a ≡ answerOf f room c
     unfolding answerOf answerBy
     told-long h d = d ∙ rw (good-number (c .refusal) z, answerOf, e, lt-leb _ room (rw e at h), answerBy)
 
     pub told-good : n ≤ room → a ≡ acceptedAnswer n (c .counts) (c .tally .spans) → a ≡ answerOf f room c
     unfolding answerOf answerBy
     told-good h d = d ∙ rw (good-number (c .refusal) z, answerOf, e, le-leb _ room (rw e at h), answerBy)
+
+-- the refusal, by number and place of the answer
+pub refusal-told :
+    (mode : ℕ) (file : List ℕ) (room : ℕ) {a : Answer} {offset : ℕ} → a ≡ answer mode file room → offset ≡ refusal mode file room .offset
+    → record { number = a .number; place = a .place; offset = offset } ≡ refusal mode file room
+refusal-told mode file room e d = let q = refusal-answered mode file room in rw (e, d, q .0, q .1)
 
 -- what the converter promises
 module _ (mode : ℕ) (file buf : List ℕ) {r : Answer} (e : r ≡ answer mode file (length buf)) where

@@ -7,7 +7,7 @@ ghost use Rattle.meaning.specs.Gsi.{formatOf};
 ghost use Rattle.meaning.specs.Walk.{Subtitle, Progress, outcome};
 ghost use Rattle.meaning.specs.Walk.Outcome.{accepted};
 ghost use Rattle.meaning.specs.Document.{render};
-ghost use Rattle.meaning.specs.Conversion.{documentOf, refusedAnswer, acceptedAnswer, answer, output};
+ghost use Rattle.meaning.specs.Conversion.{documentOf, refusal, refusedAnswer, acceptedAnswer, answer, output};
 ghost use Rattle.laws.specs.Demands.{FewestSpans};
 ghost use Rattle.output.specs.Output.{Wrote};
 ghost use Rattle.convert.specs.Telling.{marksOf, measured, answerOf};
@@ -73,37 +73,60 @@ fn answer_of(f: Format, c: Checked, room: usize) -> Answer
         let too_long = Refusal {
             number: 16,
             place: 0,
+            offset: 0,
         };
         return answer_refused(too_long, needed as u64);
     }
     answer_accepted(needed as u64, c.counts, tally.spans as u64)
 }
 
-// An answer, and the looks that the document uses.
+// An answer, the offset of its refusal, and the looks that the document uses.
 struct Examined {
     answer: Answer,
+    offset: u64,
     marks: Marks,
 }
 
 fn examine(file: &[u8], mode: u64, room: usize) -> Examined
     ensures answer { λ r. ⌜ r .answer ≡ answer mode (now (file .entry)) room ⌝ }
+    ensures offset { λ r. ⌜ r .offset ≡ refusal mode (now (file .entry)) room .offset ⌝ }
     ensures marks { λ r. ⌜ ((p : Progress (List Subtitle)) → outcome mode (now (file .entry)) ≡ accepted p → r .marks .on ≡ marksOf (formatOf mode (now (file .entry))) (p .gathered)) ⌝ }
 {
-    let rule = stl::file_rule(file, mode);
+    let rule = gsi::file_rule(file, mode);
     if rule.number != 0 {
         let answer = answer_refused(rule, 0);
         return Examined {
             answer,
+            offset: rule.offset,
             marks: Marks {
                 on: [false; Look::COUNT],
             },
         };
     }
-    let f = stl::format(file, mode);
-    let c = checking::check_blocks(file, stl::block_count(file), f);
+    let f = gsi::format(file, mode);
+    let c = checking::check_blocks(file, gsi::block_count(file), f);
     let answer = answer_of(f, c, room);
+    let refusal = c.refusal;
     let marks = c.marks;
-    Examined { answer, marks }
+    Examined {
+        answer,
+        offset: refusal.offset,
+        marks,
+    }
+}
+
+// The refusal of any file, for any break mode and a buffer of any length, or none. Number and place are the answer's; 16 has
+// offset 0, as no refusal has.
+pub fn refusal(file: &[u8], mode: u64, room: usize) -> Refusal
+    ensures { λ r. ⌜ r ≡ refusal mode (now (file .entry)) room ⌝ }
+{
+    let examined = examine(file, mode, room);
+    let a = examined.answer;
+    Refusal {
+        number: a.number,
+        place: a.place,
+        offset: examined.offset,
+    }
 }
 
 // The answer to any file, any break mode and a buffer of any length, with nothing written.
@@ -118,8 +141,8 @@ pub fn check(file: &[u8], mode: u64, room: usize) -> Answer
 fn write(file: &[u8], mode: u64, out: &mut [u8], marks: Marks) -> usize
     ensures { λ r. ⌜ ((p : Progress (List Subtitle)) → outcome mode (now (file .entry)) ≡ accepted p → marks .on ≡ marksOf (formatOf mode (now (file .entry))) (p .gathered) → Wrote (now (out .entry)) 0 (render (documentOf (formatOf mode (now (file .entry))) (p .gathered))) (now (out .exit)) r) ⌝ }
 {
-    let f = stl::format(file, mode);
-    let n = stl::block_count(file);
+    let f = gsi::format(file, mode);
+    let n = gsi::block_count(file);
     let at = document::put_head(out, 0, f.rate, marks);
     let t = Tally { at, spans: 0 };
     // The looks are marked once more, and not read.

@@ -11,7 +11,7 @@ use lib.Seq.{take-at}
 use borrow.Author.Tests.{leb-true, eqb-true, eqb-false}
 use Rattle.meaning.specs.declared.Answer.{Answer}
 use Rattle.meaning.specs.Lists.{all}
-use Rattle.meaning.specs.Gsi.{rateOf, isRate, formatOf, blockCount, isDigit, tnbField, tnb, fileRule}
+use Rattle.meaning.specs.Gsi.{rateOf, isRate, formatOf, blockCount, isDigit, tnbField, tnb, fileRules, fileRule}
 use Rattle.meaning.specs.Blocks.{gsiSize, blocks}
 use Rattle.meaning.specs.Refusals.{isGood}
 use Rattle.meaning.specs.Walk.{total, Subtitle, Progress, Outcome, walk, setRule, withSubtitles, outcome}
@@ -25,7 +25,7 @@ use Rattle.laws.proofs.Gathering.{refused-not, finish-accepted}
 use Rattle.laws.proofs.Walk.{WithinIf, walk-within, Held, Kept, walk-kept}
 
 file-known : (mode : ℕ) (file : List ℕ) → isGood (fileRule mode file) ≡ false → Known (fileRule mode file)
-unfolding fileRule
+unfolding fileRule fileRules
 file-known mode file e = broken-known 0 _ (omega arith) e
 
 module _ (Block : List ℕ → Type 0) (mode : ℕ) (file : List ℕ) (blocked : All Block (blocks (blockCount file) (drop gsiSize file))) where
@@ -79,21 +79,21 @@ module _ (mode : ℕ) (file : List ℕ) where
   walk-was p c = finish-accepted (blockCount file) _ p (rw (rule-kept p c, outcome) at c)
 
   pub rate-right : isGood (fileRule mode file) ≡ true → isRate (rateOf file) ≡ true
-  unfolding fileRule
+  unfolding fileRule fileRules
   rate-right e =
-      let r₁ = unbroken _ _ _ _ e in
-      let r₂ = unbroken _ _ _ _ (r₁ .1) in
-      unbroken _ _ _ _ (r₂ .1) .0
+      let r₁ = unbroken _ _ _ _ _ e in
+      let r₂ = unbroken _ _ _ _ _ (r₁ .1) in
+      unbroken _ _ _ _ _ (r₂ .1) .0
 
   pub tnb-right : isGood (fileRule mode file) ≡ true → (all isDigit (tnbField file) ≡ true) × (tnb file ≡ blockCount file)
-  unfolding fileRule
+  unfolding fileRule fileRules
   tnb-right e =
-      let r₁ = unbroken _ _ _ _ e in
-      let r₂ = unbroken _ _ _ _ (r₁ .1) in
-      let r₃ = unbroken _ _ _ _ (r₂ .1) in
-      let r₄ = unbroken _ _ _ _ (r₃ .1) in
-      let r₅ = unbroken _ _ _ _ (r₄ .1) in
-      let d = and-parts (all isDigit (tnbField file)) _ (unbroken _ _ _ _ (r₅ .1) .0) in
+      let r₁ = unbroken _ _ _ _ _ e in
+      let r₂ = unbroken _ _ _ _ _ (r₁ .1) in
+      let r₃ = unbroken _ _ _ _ _ (r₂ .1) in
+      let r₄ = unbroken _ _ _ _ _ (r₃ .1) in
+      let r₅ = unbroken _ _ _ _ _ (r₄ .1) in
+      let d = and-parts (all isDigit (tnbField file)) _ (unbroken _ _ _ _ _ (r₅ .1) .0) in
       (d .0, eqb-true (tnb file) (blockCount file) (d .1))
 
   counts-all : (p : Progress (List Subtitle)) → outcome mode file ≡ accepted p → total (p .counts) ≡ blockCount file

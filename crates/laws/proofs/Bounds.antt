@@ -15,7 +15,8 @@ use Rattle.meaning.specs.declared.Look.{Look}
 use Rattle.meaning.specs.Looks.{lookCount, whiteOnBlack, pack, unpack}
 use Rattle.meaning.specs.Refusals.{isGood}
 use Rattle.meaning.specs.Codes.{tokens, takesCell}
-use Rattle.meaning.specs.Rows.{isDouble, rows, linesOf, rowCount, rowLimit, isShort, rowsFit, textRule}
+use Rattle.meaning.specs.Rows.{isDouble, rows, linesOf, rowCount, rowLimit, isShort, rowsFit}
+use Rattle.meaning.specs.TextRules.{textRules, textRule}
 use Rattle.meaning.specs.Cells.{Cell, Pen, points, penAfter, cellsOf, cellsFrom, rowStart, cellsOfRow, lookAfterRow, cellRows, shown}
 use Rattle.meaning.specs.Spans.{lookOf, uniform, spansFrom, spans}
 use Rattle.meaning.specs.Gsi.{formatOf, blockCount, isDigit, valueFrom, numberIn, tnb, mnr, isTeletext, screenOf, fileRule}
@@ -217,20 +218,21 @@ lines-least true n = omega arith
 lines-least false n = omega arith
 
 pub rows-fit :
-    (f : Format) (place vp : ℕ) (ts : List Token) → isGood (textRule f place vp ts) ≡ true
-    → (all isShort (rows (f .mode) ts) ≡ true) × (vp + linesOf (isDouble ts) (rowCount (rows (f .mode) ts)) .0 ≤ f .screen .end)
-unfolding textRule rowsFit
-rows-fit f place vp ts e =
-    let r = and-parts _ _ (unbroken _ _ _ _ (unbroken _ _ _ _ (unbroken _ _ _ _ e .1) .1) .0) in
+    (f : Format) (place vp : ℕ) (text : List ℕ) → isGood (textRule f place vp text) ≡ true
+    → (all isShort (rows (f .mode) (tokens text)) ≡ true) × (vp + linesOf (isDouble (tokens text)) (rowCount (rows (f .mode) (tokens text))) .0 ≤ f .screen .end)
+unfolding textRule textRules rowsFit
+rows-fit f place vp text e =
+    let r = and-parts _ _ (unbroken _ _ _ _ _ (unbroken _ _ _ _ _ (unbroken _ _ _ _ _ e .1) .1) .0) in
     (r .0, leb-true _ (f .screen .end) (r .1))
 
 pieces-bound :
-    (f : Format) (first : Header) (ts : List Token) (place : ℕ) → isGood (textRule f place (first .vp) ts) ≡ true → f .screen .end ≤ 99
-    → size (paragraphOf f (subtitleOf (f .mode) first ts) .pieces) ≤ 239900
+    (f : Format) (first : Header) (text : List ℕ) (place : ℕ) → isGood (textRule f place (first .vp) text) ≡ true → f .screen .end ≤ 99
+    → size (paragraphOf f (subtitleOf (f .mode) first (tokens text)) .pieces) ≤ 239900
 unfolding subtitleOf rowCount fillers
-pieces-bound f first ts place e h =
+pieces-bound f first text place e h =
+    let ts = tokens text in
     let s = subtitleOf (f .mode) first ts in
-    let fit = rows-fit f place (first .vp) ts e in
+    let fit = rows-fit f place (first .vp) text e in
     rw (pieces-are f s)
     (omega (
       arith,
@@ -248,7 +250,7 @@ made-bound :
 made-bound {f = f} h s m =
     rw (m .made)
     (let t = subtitleOf (f .mode) (s .first) (tokens (m .text)) in
-    omega (arith, paragraph-bound (paragraphOf f t), pieces-bound f (s .first) (tokens (m .text)) (m .place) (m .rule) h))
+    omega (arith, paragraph-bound (paragraphOf f t), pieces-bound f (s .first) (m .text) (m .place) (m .rule) h))
 
 -- the style lines: one for each look at most
 keep-bound : {A : Type 0} (p : A → Bool) (xs : List A) → length (keep p xs) ≤ length xs

@@ -12,10 +12,11 @@ use Rattle.meaning.specs.declared.Header.{Header}
 use Rattle.meaning.specs.Lists.{all, any, takeWhile}
 use Rattle.meaning.specs.Refusals.{noRefusal, isGood, firstBroken}
 use Rattle.meaning.specs.Codes.{tokens, isListed, isControlOf, isDoubleHeight, isBoxCode}
-use Rattle.meaning.specs.Rows.{inRow, firstRow, isDouble, breaksPaired, heightsRight, rowsFit, textRule}
+use Rattle.meaning.specs.Rows.{inRow, firstRow, isDouble, breaksPaired, heightsRight, rowsFit}
+use Rattle.meaning.specs.TextRules.{breaksRows, heightFault, rowFault, textRules, textRule}
 use Rattle.meaning.specs.Looks.{whiteOnBlack}
 use Rattle.meaning.specs.Cells.{Cell, switched, lookHere, lookNext, hiddenIf, cellOf, rowStart}
-use Rattle.meaning.specs.Gsi.{isTeletext, formatOf, blockCount, fileRule}
+use Rattle.meaning.specs.Gsi.{isTeletext, formatOf, blockCount, fileRules, fileRule}
 use Rattle.meaning.specs.Blocks.{isComment, subtitleRules, firstBlockRules}
 use Rattle.meaning.specs.Sets.{BlockSet, opening, advance}
 use Rattle.meaning.specs.Walk.{Subtitle, Outcome, finish, walk, setRule, subtitleOf, subtitlesFrom, withSubtitles, outcome, subtitlesOf}
@@ -63,23 +64,28 @@ module _ (file : List ℕ) (o : isTeletext file ≡ false) where
   unfolding breaksPaired
   same-breaks ts e = text-single ts (rw o at e)
 
+  -- nor is the screen another
+  same-screen : (vp : ℕ) (double : Bool) → breaksRows (formatOf 2 file) vp double ≡ breaksRows (formatOf 1 file) vp double
+  unfolding breaksRows formatOf
+  same-screen vp double = refl
+
   -- the rules 13 to 15 tell the same
-  same-text : (place vp : ℕ) (ts : List Token) → textRule (formatOf 2 file) place vp ts ≡ textRule (formatOf 1 file) place vp ts
-  unfolding textRule formatOf heightsRight rowsFit firstBroken
-  same-text place vp ts =
-      by-test (all (isListed (isTeletext file)) ts) (λ e. rw (same-breaks ts e)) (λ e. rw (e, firstBroken))
+  same-text : (place vp : ℕ) (text : List ℕ) → textRule (formatOf 2 file) place vp text ≡ textRule (formatOf 1 file) place vp text
+  unfolding textRule textRules formatOf heightsRight rowsFit heightFault rowFault firstBroken
+  same-text place vp text =
+      by-test (all (isListed (isTeletext file)) (tokens text)) (λ e. rw (same-breaks (tokens text) e, same-screen vp (isDouble (tokens text)))) (λ e. rw (e, firstBroken))
 
   same-rule : setRule (formatOf 2 file) ≡ setRule (formatOf 1 file)
   unfolding setRule
-  same-rule = λ i s. cond (isComment (s .first)) noRefusal (same-text (s .place) (s .first .vp) (tokens (s .text)) i)
+  same-rule = λ i s. cond (isComment (s .first)) noRefusal (same-text (s .place) (s .first .vp) (s .text) i)
 
   -- and a set that keeps them is the same subtitle
   same-subtitles : (s : BlockSet) → isGood (setRule (formatOf 1 file) s) ≡ true → subtitlesFrom (formatOf 2 file) s ≡ subtitlesFrom (formatOf 1 file) s
-  unfolding subtitlesFrom setRule textRule formatOf subtitleOf
+  unfolding subtitlesFrom setRule textRule textRules formatOf subtitleOf
   same-subtitles s g =
       by-test (isComment (s .first))
       (λ c. rw c)
-      (λ c. rw (c, same-breaks (tokens (s .text)) (unbroken _ _ _ _ (rw c at g) .0)))
+      (λ c. rw (c, same-breaks (tokens (s .text)) (unbroken _ _ _ _ _ (rw c at g) .0)))
 
   -- the rules over blocks do not read the mode
   same-walk :
@@ -94,7 +100,7 @@ module _ (file : List ℕ) (o : isTeletext file ≡ false) where
       (formatOf 1 file) (λ k b a. refl) [] file (blockCount file)
 
   same-outcome : outcome 2 file ≡ outcome 1 file
-  unfolding outcome fileRule
+  unfolding outcome fileRule fileRules
   same-outcome =
       by-test (isGood (fileRule 1 file)) (λ e. rw (e, outcome) (ap (finish (blockCount file)) same-walk)) (λ e. rw (e, outcome))
 
@@ -162,8 +168,8 @@ text-plain mode first ts e =
 
 module _ (mode : ℕ) (file : List ℕ) (o : isTeletext file ≡ false) where
   made-plain : (s : Subtitle) → Made Any (formatOf mode file) s → isPlainSubtitle s ≡ true
-  unfolding textRule formatOf
-  made-plain s m = rw (m .made) (text-plain mode (s .first) (tokens (m .text)) (rw o at (unbroken _ _ _ _ (m .rule) .0)))
+  unfolding textRule textRules formatOf
+  made-plain s m = rw (m .made) (text-plain mode (s .first) (tokens (m .text)) (rw o at (unbroken _ _ _ _ _ (m .rule) .0)))
 
   kept-plain : (n : ℕ) (w : Outcome (List Subtitle)) → Kept Any (formatOf mode file) n w → all isPlainSubtitle (subtitlesOf w) ≡ true
   unfolding subtitlesOf

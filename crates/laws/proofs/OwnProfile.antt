@@ -14,7 +14,7 @@ use Rattle.meaning.specs.Codes.{tokens}
 use Rattle.meaning.specs.Rows.{isDouble}
 use Rattle.meaning.specs.Cells.{Cell, shown}
 use Rattle.meaning.specs.Spans.{lookOf}
-use Rattle.meaning.specs.Blocks.{blockSize, blocks, headerOf, timesRight, isComment, subtitleRules, firstBlockRules}
+use Rattle.meaning.specs.Blocks.{blockSize, blocks, headerOf, timesRules, timesRight, isComment, subtitleRules, firstBlockRules}
 use Rattle.meaning.specs.declared.Header.{Header}
 use Rattle.meaning.specs.declared.Format.{Format}
 use Rattle.meaning.specs.Walk.{Subtitle, subtitleOf}
@@ -24,7 +24,7 @@ use Rattle.meaning.specs.Conversion.{spanOf, rowSpans, laterRows, rowPieces, pa
 use Rattle.meaning.specs.Profile.{isScalar, pieceInProfile, paragraphsInProfile}
 use Rattle.meaning.proofs.Logic.{and-true}
 use Rattle.meaning.proofs.ListLaws.{All, all-append, all-copies, all-map, test-all}
-use Rattle.meaning.proofs.RefusalLaws.{Holds, unbroken}
+use Rattle.meaning.proofs.RefusalLaws.{Holds, times-numbered, unbroken, unbroken-all}
 use Rattle.meaning.proofs.ListLaws.All.{nil, cons}
 use Rattle.laws.proofs.Pieces.{fillersOf, pieces-are}
 use Rattle.laws.proofs.Trimming.{all-shown}
@@ -87,10 +87,10 @@ pieces-right f s h = rw (pieces-are f s) (test-all pieceInProfile (all-append (r
 -- rule 11
 times-right :
     (f : Format) (place least : ℕ) (h : Header) → isComment h ≡ false → Holds place (firstBlockRules f least h) → timesRight (f .rate) (h .tci) (h .tco) ≡ true
-unfolding firstBlockRules subtitleRules
+unfolding firstBlockRules subtitleRules timesRight
 times-right f place least h c e =
-    let r = rw c at (unbroken _ _ _ _ (unbroken _ _ _ _ e .1) .1) in
-    unbroken _ _ _ _ (unbroken _ _ _ _ r .1) .0
+    let r = rw c at (unbroken _ _ _ _ _ (unbroken _ _ _ _ _ e .1) .1) in
+    unbroken-all _ (timesRules _ _ _) _ (times-numbered _ _ _) (unbroken _ _ _ _ _ r .1) .0
 
 sn-right : (b : List ℕ) → Bytes b → headerOf b .sn < 65536
 unfolding headerOf

@@ -1,4 +1,4 @@
--- What an answer other than 0 says: its number is at most 16, and the buffer is untouched.
+-- What an answer other than 0 says: its number is at most 16, and the buffer is untouched. Number and place are those of the refusal.
 -- Assumes nothing.
 use Prim.Native.Nat.{ℕ, _≤_}
 use native.Mathlib.Omega.{arith}
@@ -10,12 +10,12 @@ use lib.ListN.{length}
 use Rattle.meaning.specs.declared.Refusal.{Refusal}
 use Rattle.meaning.specs.declared.Format.{Format}
 use Rattle.meaning.specs.declared.Counts.{Counts}
-use Rattle.meaning.specs.Refusals.{isGood}
+use Rattle.meaning.specs.Refusals.{noRefusal, isGood}
 use Rattle.meaning.specs.Gsi.{formatOf, blockCount}
 use Rattle.meaning.specs.Walk.{Subtitle, Outcome, outcome}
 use Rattle.meaning.specs.Walk.Outcome.{refused, accepted}
 use Rattle.meaning.specs.Document.{render}
-use Rattle.meaning.specs.Conversion.{documentOf, refusedAnswer, acceptedAnswer, answerBy, answerTo, answer, bufferAfter, output}
+use Rattle.meaning.specs.Conversion.{documentOf, refusalTo, refusal, refusedAnswer, acceptedAnswer, answerBy, answerTo, answer, bufferAfter, output}
 use Rattle.meaning.proofs.Logic.{by-test}
 use Rattle.meaning.proofs.ListLaws.{Any, any-blocks}
 use Rattle.laws.proofs.Walk.{Kept}
@@ -41,6 +41,15 @@ untouched f buffer (refused r) z = refl
 untouched f buffer (accepted p) z =
     by-test (leb (length (render (documentOf f (p .gathered)))) (length buffer)) (λ t. absurd (z (rw (t, answerBy)))) (λ t. rw (t, bufferAfter))
 
+-- number and place are those of the refusal
+answered-as :
+    (f : Format) (room : ℕ) (o : Outcome (List Subtitle))
+    → (answerTo f room o .number ≡ refusalTo f room o .number) × (answerTo f room o .place ≡ refusalTo f room o .place)
+unfolding answerTo answerBy acceptedAnswer refusedAnswer refusalTo noRefusal
+answered-as f room (refused r) = (refl, refl)
+answered-as f room (accepted p) =
+    by-test (leb (length (render (documentOf f (p .gathered)))) room) (λ t. rw (t, answerBy) (refl, refl)) (λ t. rw (t, answerBy) (refl, refl))
+
 module _ (mode : ℕ) (file : List ℕ) where
   number-bound : (room : ℕ) → answer mode file room .number ≤ 16
   unfolding answer
@@ -57,3 +66,9 @@ module _ (mode : ℕ) (file : List ℕ) where
       × ((answer mode file (length buffer) .number ≡ 0 → ⊥) → output mode file buffer ≡ buffer)
   unfolding answer output
   refused-untouched buffer = (number-bound (length buffer), untouched (formatOf mode file) buffer (outcome mode file))
+
+  pub refusal-answered :
+      (room : ℕ)
+      → (answer mode file room .number ≡ refusal mode file room .number) × (answer mode file room .place ≡ refusal mode file room .place)
+  unfolding answer refusal
+  refusal-answered room = answered-as (formatOf mode file) room (outcome mode file)

@@ -15,18 +15,18 @@ use Rattle.meaning.specs.declared.Refusal.{Refusal}
 use Rattle.meaning.specs.declared.Counts.{Counts}
 use Rattle.meaning.specs.declared.Header.{Header}
 use Rattle.meaning.specs.declared.Format.{Format}
-use Rattle.meaning.specs.Refusals.{noRefusal, isGood, firstBroken}
+use Rattle.meaning.specs.Refusals.{Rule, noRefusal, isGood, firstBroken}
 use Rattle.meaning.specs.Codes.{tokens}
-use Rattle.meaning.specs.Rows.{textRule}
-use Rattle.meaning.specs.Blocks.{gsiSize, textSize, blocks, headerOf, blockText, isComment, subtitleRules, firstBlockRules}
-use Rattle.meaning.specs.Sets.{BlockSet, Assembly, Event, noBlocks, unless, closeAtLast, opening, goesOn, continuing, isUser, advance}
+use Rattle.meaning.specs.TextRules.{textRules, textRule}
+use Rattle.meaning.specs.Blocks.{gsiSize, textSize, blocks, headerOf, blockText, isComment, firstBlockRules}
+use Rattle.meaning.specs.Sets.{BlockSet, Assembly, Event, noBlocks, unless, closeAtLast, begins, opening, goesOn, agreementRules, continuing, isUser, advance}
 use Rattle.meaning.specs.Sets.Event.{broken, pending, closed}
 use Rattle.meaning.specs.Walk.{noCounts, total, counted, isOpen, begun, Progress, Outcome, finish, judge, step, walk, setRule, Subtitle, subtitleOf, subtitlesFrom, withSubtitles}
 use Rattle.meaning.specs.Walk.Outcome.{refused, accepted}
 use Rattle.meaning.proofs.Logic.{by-test, by-option, or-parts, and-parts, none-not-some, false-not-true}
 use Rattle.meaning.proofs.ListLaws.{All, all-append, Any, any-blocks}
 use Rattle.meaning.proofs.ListLaws.All.{nil, cons}
-use Rattle.meaning.proofs.RefusalLaws.{Holds, unbroken, Known, Numbered, broken-known}
+use Rattle.meaning.proofs.RefusalLaws.{Holds, unbroken, Known, first-numbered, broken-known}
 use Rattle.meaning.proofs.Texts.{text-short}
 use Rattle.laws.proofs.Steps.{blocks-length, steps-keep}
 
@@ -59,7 +59,7 @@ pub record Made (Block : List ℕ → Type 0) (f : Format) (s : Subtitle) : Type
   pub subtitle : isComment (s .first) ≡ false
   pub text : List ℕ
   pub place : ℕ
-  pub rule : isGood (textRule f place (s .first .vp) (tokens text)) ≡ true
+  pub rule : isGood (textRule f place (s .first .vp) text) ≡ true
   pub made : s ≡ subtitleOf (f .mode) (s .first) (tokens text)
 
 -- SNs ascend from one bound to another
@@ -80,23 +80,18 @@ ascends-more lo (t ∷ ss) h hi a l = (a .0, ascends-more (suc (t .first .sn)) s
 -- rule 9
 least-kept : (f : Format) (place least : ℕ) (h : Header) → Holds place (firstBlockRules f least h) → least ≤ h .sn
 unfolding firstBlockRules
-least-kept f place least h e = leb-true least (h .sn) (unbroken _ _ _ _ (unbroken _ _ _ _ e .1) .0)
-
--- the numbers of the rules 8 to 12
-first-numbered : (f : Format) (least : ℕ) (h : Header) → Numbered (firstBlockRules f least h)
-unfolding firstBlockRules subtitleRules
-first-numbered f least h = by-test (isComment h) (λ e. rw e (omega arith)) (λ e. rw e (omega arith))
+least-kept f place least h e = leb-true least (h .sn) (unbroken _ _ _ _ _ (unbroken _ _ _ _ _ e .1) .0)
 
 text-known : (f : Format) (s : BlockSet) → isGood (setRule f s) ≡ false → Known (setRule f s)
-unfolding setRule textRule noRefusal isGood
+unfolding setRule textRule textRules noRefusal isGood
 text-known f s e =
     by-test (isComment (s .first))
     (λ c. absurd (false-not-true (sym (rw c at e))))
     (λ c. rw c (broken-known (s .place) _ (omega arith) (rw c at e)))
 
 -- what follows a test of rules
-by-rules :
-    (G : Event → Type 0) (place : ℕ) (rs : List (ℕ × Bool)) (e : Event) → (Holds place rs → G e)
+pub by-rules :
+    (G : Event → Type 0) (place : ℕ) (rs : List Rule) (e : Event) → (Holds place rs → G e)
     → (isGood (firstBroken place rs) ≡ false → G (broken (firstBroken place rs))) → G (unless (firstBroken place rs) e)
 unfolding unless
 by-rules G place rs e f g = by-test (isGood (firstBroken place rs)) (λ t. rw (t, unless) (f t)) (λ t. rw (t, unless) (g t))
@@ -146,13 +141,13 @@ last-fits n s least h =
 -- one block more: its place is the number of those before it
 module _ (f : Format) (place : ℕ) (b : List ℕ) where
   opening-fits : (least : ℕ) → BoundedAfter (suc place) (opening f place (headerOf b) (blockText b) least)
-  unfolding opening
+  unfolding opening begins
   opening-fits least =
       by-rules (BoundedAfter (suc place)) place _ _
       (λ t.
       last-fits _ _ _
       (λ n.
-      let o = ⊎-elim (λ z. eqb-true (headerOf b .ebn) 0 z) (λ z. absurd (n (eqb-true (headerOf b .ebn) 255 z))) (or-parts _ _ (unbroken _ _ _ _ t .0)) in
+      let o = ⊎-elim (λ z. eqb-true (headerOf b .ebn) 0 z) (λ z. absurd (n (eqb-true (headerOf b .ebn) 255 z))) (or-parts _ _ (unbroken _ _ _ _ _ t .0)) in
       record { size = omega (arith, text-short b); last = omega (arith, o); few = omega (arith, o) }))
       (λ t. tt)
 
@@ -164,7 +159,7 @@ module _ (f : Format) (place : ℕ) (b : List ℕ) where
       last-fits _ _ _
       (λ n.
       let o : (eqb (headerOf b .ebn) (suc (s .last)) ≡ true) × (ltb (headerOf b .ebn) 240 ≡ true) =
-      ⊎-elim (λ z. absurd (n (eqb-true (headerOf b .ebn) 255 z))) (λ z. and-parts _ _ z) (or-parts _ _ (unbroken _ _ _ _ t .0))
+      ⊎-elim (λ z. absurd (n (eqb-true (headerOf b .ebn) 255 z))) (λ z. and-parts _ _ z) (or-parts _ _ (unbroken _ _ _ _ _ t .0))
       in
       let next = eqb-true (headerOf b .ebn) (suc (s .last)) (o .0) in
       record {
@@ -264,7 +259,7 @@ module _ (Block : List ℕ → Type 0) (f : Format) where
     opening-kept =
         by-rules (Moved ss) place _ _
         (λ t.
-        let r = unbroken _ _ _ _ t .1 in
+        let r = unbroken _ _ _ _ _ t .1 in
         last-kept ss _ _
         (record {
           opened = record { bytes = b; block = k; header = refl; place = place; least = a .least; rules = r };
@@ -274,7 +269,7 @@ module _ (Block : List ℕ → Type 0) (f : Format) where
         (λ t. broken-known place _ (omega arith, omega arith, first-numbered f (a .least) (headerOf b)) t)
 
     continuing-kept : (s : BlockSet) → Open ss (a .least) s → Moved ss (continuing place (headerOf b) (blockText b) s (a .least))
-    unfolding continuing
+    unfolding continuing agreementRules
     continuing-kept s o =
         by-rules (Moved ss) place _ _
         (λ t. last-kept ss _ _ (record { opened = o .opened; above = o .above; below = o .below }))

@@ -2,10 +2,13 @@ pub mod Computed
 pub mod Files
 pub mod Example
 pub mod Cases
+pub mod ReasonCases
 pub mod Logic
 pub mod ListLaws
 pub mod RefusalLaws
 pub mod LookLaws
 pub mod RowLaws
+pub mod RowClauses
 pub mod Tokens
+pub mod TextPlaces
 pub mod Texts

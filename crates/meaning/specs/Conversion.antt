@@ -1,7 +1,7 @@
 -- The document of an accepted file, the answer, and the output buffer: document 01, "What comes back" and "The document, whole"; document 02, request 1.
 -- Assumes nothing.
 use Prim.Native.Nat.{ℕ, zero, suc, _+_, _-_}
-use mathlib.Core.Bool.{Bool, true, false}
+use mathlib.Core.Bool.{Bool, true, false, cond}
 use mathlib.Core.List.{List, [], _∷_, _++_, map, flatMap}
 use lib.Dec.{leb}
 use lib.ListN.{length, drop, replicate}
@@ -15,6 +15,7 @@ use Rattle.meaning.specs.declared.Format.{Format}
 use Rattle.meaning.specs.declared.Header.{Header}
 use Rattle.meaning.specs.Gsi.{formatOf}
 use Rattle.meaning.specs.declared.Refusal.{Refusal}
+use Rattle.meaning.specs.Refusals.{noRefusal}
 use Rattle.meaning.specs.declared.Counts.{Counts}
 use Rattle.meaning.specs.Walk.{Subtitle, Outcome, outcome}
 use Rattle.meaning.specs.Walk.Outcome.{refused, accepted}
@@ -64,6 +65,22 @@ paragraphOf f s = paragraphWith (s .first) (pieces (f .screen .end) (s .first .v
 unfoldable pub documentOf : Format → List Subtitle → Document
 documentOf f ss = record { rate = f .rate; paragraphs = map (paragraphOf f) ss }
 
+-- rule 16: a document of some length fits the buffer
+abbrev pub fitsIn : ℕ → ℕ → Bool
+fitsIn room n = leb n room
+
+abbrev pub tooLong : Refusal
+tooLong = record { number = 16; place = 0; offset = 0 }
+
+-- the refusal of a file, or none: that of the rules 1 to 15, or 16
+unfoldable pub refusalTo : Format → ℕ → Outcome (List Subtitle) → Refusal
+refusalTo f room (refused r) = r
+refusalTo f room (accepted p) = cond (fitsIn room (length (render (documentOf f (p .gathered))))) noRefusal tooLong
+
+-- for a break mode, a file, and a buffer of some length
+unfoldable pub refusal : ℕ → List ℕ → ℕ → Refusal
+refusal mode file room = refusalTo (formatOf mode file) room (outcome mode file)
+
 -- the answer to a refused file; refusal 16 tells the length needed
 unfoldable pub refusedAnswer : Refusal → ℕ → Answer
 refusedAnswer r needed =
@@ -82,13 +99,9 @@ acceptedAnswer written c spans =
       spans = spans;
     }
 
--- rule 16: a document of some length fits the buffer
-abbrev pub fitsIn : ℕ → ℕ → Bool
-fitsIn room n = leb n room
-
 -- the answer to a file within the rules 1 to 15, by its counts and its document's length and spans
 unfoldable pub answerBy : ℕ → Counts → ℕ → ℕ → Answer
-answerBy room c n spans = elim (fitsIn room n) [ true ↦ acceptedAnswer n c spans | false ↦ refusedAnswer (record { number = 16; place = 0 }) n ]
+answerBy room c n spans = elim (fitsIn room n) [ true ↦ acceptedAnswer n c spans | false ↦ refusedAnswer tooLong n ]
 
 unfoldable pub answerTo : Format → ℕ → Outcome (List Subtitle) → Answer
 answerTo f room (refused r) = refusedAnswer r 0

@@ -1,4 +1,4 @@
--- The GSI block, and the rules 1 to 6 over a whole file: document 01, "The file" and "What comes back"; document 02, request 1.
+-- The GSI block, and the rules 1 to 6 over a whole file: document 01, "The file" and "What comes back"; document 02, requests 1 and 3.
 -- Assumes nothing.
 use Prim.Native.Nat.{ℕ, _+_, _*_, _-_, _/_, _%_}
 use mathlib.Core.Bool.{Bool, true, false, cond, _&&_, _||_}
@@ -9,15 +9,31 @@ use Rattle.meaning.specs.declared.Screen.{Screen}
 use Rattle.meaning.specs.declared.Format.{Format}
 use Rattle.meaning.specs.declared.Refusal.{Refusal}
 use Rattle.meaning.specs.Lists.{all, field, same, bytes}
-use Rattle.meaning.specs.Refusals.{firstBroken}
+use Rattle.meaning.specs.Refusals.{Rule, firstBroken}
 use Rattle.meaning.specs.Blocks.{gsiSize, blockSize}
+
+-- where the fields start: DFC, DSC, CCT, TNB, MNR
+abbrev pub dfcAt : ℕ
+dfcAt = 3
+
+abbrev pub dscAt : ℕ
+dscAt = 11
+
+abbrev pub cctAt : ℕ
+cctAt = 12
+
+abbrev pub tnbAt : ℕ
+tnbAt = 238
+
+abbrev pub mnrAt : ℕ
+mnrAt = 253
 
 -- DFC, 3 to 10: the frames of a second, 0 where it is neither of the two
 unfoldable pub rateOf : List ℕ → ℕ
 rateOf file =
-    elim (same (field 3 8 file) (bytes "STL25.01")) [
+    elim (same (field dfcAt 8 file) (bytes "STL25.01")) [
       | true ↦ 25
-      | false ↦ elim (same (field 3 8 file) (bytes "STL30.01")) [ true ↦ 30 | false ↦ 0 ]
+      | false ↦ elim (same (field dfcAt 8 file) (bytes "STL30.01")) [ true ↦ 30 | false ↦ 0 ]
     ]
 
 unfoldable pub isRate : ℕ → Bool
@@ -41,18 +57,18 @@ numberIn cs = cond (all isDigit cs) (valueFrom 0 cs) 0
 
 -- TNB, 238 to 242: its bytes, and the number that they write
 abbrev pub tnbField : List ℕ → List ℕ
-tnbField file = field 238 5 file
+tnbField file = field tnbAt 5 file
 
 unfoldable pub tnb : List ℕ → ℕ
 tnb file = numberIn (tnbField file)
 
 -- MNR, 253 to 254: the rows of the screen of open subtitles, 0 where one of its bytes is no digit
 unfoldable pub mnr : List ℕ → ℕ
-mnr file = numberIn (field 253 2 file)
+mnr file = numberIn (field mnrAt 2 file)
 
 -- DSC, 11: "1" and "2" are for teletext, "0" is for open subtitles
 abbrev pub dsc : List ℕ → ℕ
-dsc file = getD file 11 0
+dsc file = getD file dscAt 0
 
 unfoldable pub isTeletext : List ℕ → Bool
 isTeletext file = eqb (dsc file) 49 || eqb (dsc file) 50
@@ -65,15 +81,18 @@ screenOf file = cond (isTeletext file) (record { first = 1; end = 24 }) (record 
 unfoldable pub formatOf : ℕ → List ℕ → Format
 formatOf mode file = record { mode = mode; rate = rateOf file; screen = screenOf file; teletext = isTeletext file }
 
--- the first of the rules 1 to 6 that a break mode and a file break; MNR is read in files of open subtitles only
+-- the rules 1 to 6, each with the offset of its field; 1 and 2 have none, and stand at the file's end. MNR is read in files of open subtitles only.
+unfoldable pub fileRules : ℕ → List ℕ → List Rule
+fileRules mode file =
+    (1, length file, eqb mode 1 || eqb mode 2)
+    ∷ (2, length file, leb gsiSize (length file) && eqb ((length file - gsiSize) % blockSize) 0)
+    ∷ (3, dfcAt, isRate (rateOf file))
+    ∷ (4, dscAt, isTeletext file || eqb (dsc file) 48)
+    ∷ (5, cctAt, same (field cctAt 2 file) (bytes "00"))
+    ∷ (6, tnbAt, all isDigit (tnbField file) && eqb (tnb file) (blockCount file))
+    ∷ (6, mnrAt, isTeletext file || leb 1 (mnr file))
+    ∷ []
+
+-- the first of them that a break mode and a file break
 unfoldable pub fileRule : ℕ → List ℕ → Refusal
-fileRule mode file =
-    firstBroken 0
-    ((1, eqb mode 1 || eqb mode 2)
-    ∷ (2, leb gsiSize (length file) && eqb ((length file - gsiSize) % blockSize) 0)
-    ∷ (3, isRate (rateOf file))
-    ∷ (4, isTeletext file || eqb (dsc file) 48)
-    ∷ (5, same (field 12 2 file) (bytes "00"))
-    ∷ (6, all isDigit (tnbField file) && eqb (tnb file) (blockCount file))
-    ∷ (6, isTeletext file || leb 1 (mnr file))
-    ∷ [])
+fileRule mode file = firstBroken 0 (fileRules mode file)

@@ -4,6 +4,7 @@ pub mod Tables
 pub mod Characters
 pub mod Codes
 pub mod Rows
+pub mod TextRules
 pub mod Looks
 pub mod Cells
 pub mod Spans
@@ -13,4 +14,5 @@ pub mod Sets
 pub mod Walk
 pub mod Document
 pub mod Conversion
+pub mod Reasons
 pub mod Profile

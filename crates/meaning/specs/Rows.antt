@@ -1,4 +1,4 @@
--- A text's rows, and the rules 13 to 15: document 01, "Text to rows"; document 02, request 1.
+-- A text's rows, and what the rules 14 and 15 ask of them: document 01, "Text to rows"; document 02, request 1.
 -- Assumes nothing.
 use Prim.Native.Nat.{ℕ, _+_, _*_}
 use mathlib.Core.Bool.{Bool, true, false, cond, not, _&&_, _||_}
@@ -8,11 +8,9 @@ use lib.ListN.{length}
 use Rattle.meaning.specs.declared.Token.{Token}
 use Rattle.meaning.specs.declared.Rows.{Rows}
 use Rattle.meaning.specs.declared.Lines.{Lines}
-use Rattle.meaning.specs.declared.Refusal.{Refusal}
 use Rattle.meaning.specs.declared.Format.{Format}
 use Rattle.meaning.specs.Lists.{all, any, keep, takeWhile, ontoFirst}
-use Rattle.meaning.specs.Refusals.{firstBroken}
-use Rattle.meaning.specs.Codes.{isListed, isCharacter, isRowEnd, takesCell, isDoubleHeight}
+use Rattle.meaning.specs.Codes.{isCharacter, isRowEnd, takesCell, isDoubleHeight}
 
 -- n row ends make n + 1 rows, empty ones counted
 unfoldable pub splitRows : List Token → List (List Token)
@@ -93,8 +91,3 @@ unfoldable pub rowsFit : Format → ℕ → List Token → Bool
 rowsFit f vp ts =
     all isShort (rows (f .mode) ts)
     && leb (vp + linesOf (isDouble ts) (rowCount (rows (f .mode) ts)) .0) (f .screen .end)
-
--- the first of the rules 13 to 15 that a text breaks, whose set begins at a place
-unfoldable pub textRule : Format → ℕ → ℕ → List Token → Refusal
-textRule f place vp ts =
-    firstBroken place ((13, all (isListed (f .teletext)) ts) ∷ (14, heightsRight (f .mode) ts) ∷ (15, rowsFit f vp ts) ∷ [])

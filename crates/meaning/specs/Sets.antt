@@ -1,4 +1,4 @@
--- Sets of blocks, put together block by block: document 01, "The file", and the rules 7 to 12 of "What comes back".
+-- Sets of blocks, put together block by block: document 01, "The file", and the rules 7 to 12 of "What comes back"; document 02, request 3.
 -- Assumes nothing.
 use Prim.Native.Nat.{ℕ, suc}
 use mathlib.Core.Bool.{Bool, true, false, _&&_, _||_}
@@ -8,8 +8,8 @@ use lib.Dec.{ltb, eqb}
 use Rattle.meaning.specs.declared.Refusal.{Refusal}
 use Rattle.meaning.specs.declared.Header.{Header}
 use Rattle.meaning.specs.declared.Format.{Format}
-use Rattle.meaning.specs.Refusals.{isGood, firstBroken}
-use Rattle.meaning.specs.Blocks.{headerOf, blockText, firstBlockRules}
+use Rattle.meaning.specs.Refusals.{Rule, isGood, firstBroken}
+use Rattle.meaning.specs.Blocks.{sgnAt, snAt, ebnAt, cfAt, headerOf, blockText, firstBlockRules}
 
 -- a set so far: its first block's place and header, the EBN of its last block, and its text
 pub record BlockSet : Type 0 where
@@ -54,10 +54,14 @@ closeAtLast s least =
       | false ↦ pending (record { least = least; current = some s })
     ]
 
+-- the EBN of a set's first block
+unfoldable pub begins : ℕ → Bool
+begins ebn = eqb ebn 0 || eqb ebn lastBlock
+
 -- a block where no set is open, its header and its text: EBN 00h or FFh, then the rules 8 to 12
 unfoldable pub opening : Format → ℕ → Header → List ℕ → ℕ → Event
 opening f place h text least =
-    unless (firstBroken place ((7, eqb (h .ebn) 0 || eqb (h .ebn) lastBlock) ∷ firstBlockRules f least h))
+    unless (firstBroken place ((7, ebnAt, begins (h .ebn)) ∷ firstBlockRules f least h))
     (closeAtLast (record { place = place; first = h; last = h .ebn; text = text }) (suc (h .sn)))
 
 -- the next EBN, at most EFh, or FFh
@@ -65,13 +69,13 @@ unfoldable pub goesOn : ℕ → ℕ → Bool
 goesOn last ebn = eqb ebn lastBlock || (eqb ebn (suc last) && ltb ebn numberedBlocks)
 
 -- all blocks of a set agree in SGN, SN and CF
-unfoldable pub agrees : Header → Header → Bool
-agrees first h = eqb (h .sgn) (first .sgn) && eqb (h .sn) (first .sn) && eqb (h .cf) (first .cf)
+unfoldable pub agreementRules : Header → Header → List Rule
+agreementRules first h = (7, sgnAt, eqb (h .sgn) (first .sgn)) ∷ (7, snAt, eqb (h .sn) (first .sn)) ∷ (7, cfAt, eqb (h .cf) (first .cf)) ∷ []
 
--- a block of an open set
+-- a block of an open set: its EBN comes before any disagreement
 unfoldable pub continuing : ℕ → Header → List ℕ → BlockSet → ℕ → Event
 continuing place h text s least =
-    unless (firstBroken place ((7, goesOn (s .last) (h .ebn)) ∷ (7, agrees (s .first) h) ∷ []))
+    unless (firstBroken place ((7, ebnAt, goesOn (s .last) (h .ebn)) ∷ agreementRules (s .first) h))
     (closeAtLast (record { place = s .place; first = s .first; last = h .ebn; text = s .text ++ text }) least)
 
 -- user data

@@ -13,7 +13,8 @@ use Rattle.meaning.specs.declared.Header.{Header}
 use Rattle.meaning.specs.declared.Format.{Format}
 use Rattle.meaning.specs.Refusals.{noRefusal, isGood}
 use Rattle.meaning.specs.Codes.{tokens}
-use Rattle.meaning.specs.Rows.{rows, isDouble, textRule}
+use Rattle.meaning.specs.Rows.{rows, isDouble}
+use Rattle.meaning.specs.TextRules.{textRule}
 use Rattle.meaning.specs.Looks.{whiteOnBlack}
 use Rattle.meaning.specs.Cells.{Cell, cellRows}
 use Rattle.meaning.specs.Gsi.{formatOf, blockCount, fileRule}
@@ -56,10 +57,10 @@ pub data Outcome (A : Type 0) : Type 0 where
 unfoldable pub begun : {A : Type 0} → A → Progress A
 begun x = record { assembly = noBlocks; counts = noCounts; gathered = x }
 
--- after the last block: a set still open is refused at the block count
+-- after the last block: a set still open is refused at the block count, where no block starts
 unfoldable pub finish : {A : Type 0} → ℕ → Outcome A → Outcome A
 finish count (refused r) = refused r
-finish count (accepted p) = elim (isOpen (p .assembly)) [ true ↦ refused (record { number = 7; place = count }) | false ↦ accepted p ]
+finish count (accepted p) = elim (isOpen (p .assembly)) [ true ↦ refused (record { number = 7; place = count; offset = 0 }) | false ↦ accepted p ]
 
 -- a rule over closed sets, and how a set that keeps it is gathered
 module _ {A : Type 0} (f : Format) (rule : BlockSet → Refusal) (add : BlockSet → A → A) where
@@ -90,7 +91,7 @@ module _ {A : Type 0} (f : Format) (rule : BlockSet → Refusal) (add : BlockSet
 
 -- the first of the rules 13 to 15 that a closed set breaks; a comment is not tested
 unfoldable pub setRule : Format → BlockSet → Refusal
-setRule f s = cond (isComment (s .first)) noRefusal (textRule f (s .place) (s .first .vp) (tokens (s .text)))
+setRule f s = cond (isComment (s .first)) noRefusal (textRule f (s .place) (s .first .vp) (s .text))
 
 -- a subtitle set: its first block's header, and its rows of cells
 pub record Subtitle : Type 0 where

@@ -21,21 +21,25 @@ pub const BLOCK_SIZE: usize = HEADER_SIZE + TEXT_SIZE;
 // The most cells of a row.
 pub const ROW_LIMIT: usize = 64;
 
-// The rule that a file breaks, and the block where. Number 0 at place 0: no rule is broken.
+// The rule that a file breaks, the block, and the offset: from the start of the file in the rules 1 to 6, of the block in 7 to 12,
+// of the set's text in 13 to 15; 0 in 16. A set open at the end has the block count for its block, and offset 0 there: the file ends
+// at that place. Number 0 at place 0: no rule is broken.
 pub struct Refusal {
     pub number: u64,
     pub place: u64,
+    pub offset: u64,
 }
 
 impl Refusal {
     pub const NONE: Refusal = Refusal {
         number: 0,
         place: 0,
+        offset: 0,
     };
 
     // One rule more, at a place: of those that fail the first counts.
-    pub fn or(self, place: u64, number: u64, holds: bool) -> Refusal
-        ensures { λ r. ⌜ r ≡ inTurn self place number holds ⌝ }
+    pub fn or(self, place: u64, number: u64, offset: u64, holds: bool) -> Refusal
+        ensures { λ r. ⌜ r ≡ inTurn self place number offset holds ⌝ }
     {
         if holds {
             return self;
@@ -43,8 +47,26 @@ impl Refusal {
         if self.number != 0 {
             return self;
         }
-        Refusal { number, place }
+        Refusal {
+            number,
+            place,
+            offset,
+        }
     }
+}
+
+// The byte at an offset of a file, if there is one.
+pub enum FileByte {
+    Absent,
+    Present(u8),
+}
+
+// Why a file is refused: the rule, the block, the offset in the file, and the byte there.
+pub struct Reason {
+    pub number: u64,
+    pub block: u64,
+    pub offset: u64,
+    pub byte: FileByte,
 }
 
 // What comes back from a conversion, in document 01's order.
@@ -89,6 +111,25 @@ pub struct Header {
 }
 
 impl Header {
+    // Where the fields start in a block.
+    pub const SGN_AT: usize = 0;
+
+    pub const SN_AT: usize = 1;
+
+    pub const EBN_AT: usize = 3;
+
+    pub const CS_AT: usize = 4;
+
+    pub const TCI_AT: usize = 5;
+
+    pub const TCO_AT: usize = 9;
+
+    pub const VP_AT: usize = 13;
+
+    pub const JC_AT: usize = 14;
+
+    pub const CF_AT: usize = 15;
+
     pub fn is_comment(self) -> bool
         ensures { λ r. ⌜ r ≡ isComment self ⌝ }
     {

@@ -12,11 +12,6 @@ unfoldable pub afterRow : List Token → List Token
 afterRow [] = []
 afterRow (t ∷ ts) = elim (isRowEnd t) [ true ↦ ts | false ↦ afterRow ts ]
 
--- a row end stands first
-unfoldable pub endFirst : List Token → Bool
-endFirst [] = false
-endFirst (t ∷ ts) = isRowEnd t
-
 -- without a row end that stands first: the second of a pair
 unfoldable pub withoutEnd : List Token → List Token
 withoutEnd [] = []

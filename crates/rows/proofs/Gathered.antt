@@ -20,7 +20,7 @@ use Rattle.rows.specs.declared.RowFacts.{RowFacts}
 use Rattle.rows.specs.Scanning.{countLimit, factsOfRow, withToken, withCharacters, factsOfRows, withRow}
 
 -- a test below its limit does not tell a count from a capped one
-capped : (limit n k : ℕ) → k < limit → leb (min n limit) k ≡ leb n k
+pub capped : (limit n k : ℕ) → k < limit → leb (min n limit) k ≡ leb n k
 capped limit n k h = same-leb (min n limit) k n k (λ e. omega arith) (λ e. omega arith)
 
 -- no 0Dh may follow a character

@@ -10,19 +10,17 @@ use Rattle.meaning.specs.declared.Token.{Token}
 use Rattle.meaning.specs.declared.Token.the-variants.{Character}
 use Rattle.meaning.specs.Lists.{any, takeWhile, ontoFirst}
 use Rattle.meaning.specs.Codes.{isRowEnd}
-use Rattle.meaning.specs.Rows.{splitRows, inRow, firstRow, pairedFrom, rowsOf, evenFrom, linesOf}
+use Rattle.meaning.specs.Rows.{splitRows, firstRow, pairedFrom, rowsOf, evenFrom, linesOf}
+use Rattle.meaning.specs.TextRules.{endFirst}
 use Rattle.meaning.proofs.Logic.{by-test, false-not-true}
-use Rattle.meaning.proofs.ListLaws.{while-on, while-off}
+pub use Rattle.meaning.proofs.RowClauses.{first-end, first-more}
+use Rattle.meaning.proofs.RowClauses.{split-end, split-more}
 use Rattle.rows.specs.Scanned.{isEnded}
-use Rattle.rows.proofs.FirstRow.{afterRow, endFirst, withoutEnd, nextRows, rowsAfter}
+use Rattle.rows.proofs.FirstRow.{afterRow, withoutEnd, nextRows, rowsAfter}
 
 -- the clauses, by the test
 module _ (t : Token) (ts : List Token) where
   module _ (e : isRowEnd t ≡ true) where
-    pub first-end : firstRow (t ∷ ts) ≡ []
-    unfolding firstRow inRow
-    first-end = while-off inRow t ts (rw e)
-
     pub after-end : afterRow (t ∷ ts) ≡ ts
     unfolding afterRow
     after-end = rw (e, afterRow)
@@ -31,15 +29,7 @@ module _ (t : Token) (ts : List Token) where
     unfolding isEnded any
     ended-end = rw (e, any)
 
-    pub split-end : splitRows (t ∷ ts) ≡ [] ∷ splitRows ts
-    unfolding splitRows
-    split-end = rw (e, splitRows)
-
   module _ (e : isRowEnd t ≡ false) where
-    pub first-more : firstRow (t ∷ ts) ≡ t ∷ firstRow ts
-    unfolding firstRow inRow
-    first-more = while-on inRow t ts (rw e)
-
     pub after-more : afterRow (t ∷ ts) ≡ afterRow ts
     unfolding afterRow
     after-more = rw (e, afterRow)
@@ -47,10 +37,6 @@ module _ (t : Token) (ts : List Token) where
     pub ended-more : isEnded (t ∷ ts) ≡ isEnded ts
     unfolding isEnded any
     ended-more = rw (e, any)
-
-    pub split-more : splitRows (t ∷ ts) ≡ ontoFirst t (splitRows ts)
-    unfolding splitRows
-    split-more = rw (e, splitRows)
 
 pub first-none : firstRow [] ≡ []
 unfolding firstRow takeWhile

@@ -8,13 +8,14 @@ use mathlib.Core.List.{List}
 use lib.ListN.{length, drop}
 use Rattle.meaning.specs.declared.Token.{Token}
 use Rattle.meaning.specs.Codes.{isRowEnd, tokens}
+use Rattle.meaning.specs.TextRules.{endFirst}
 use Rattle.meaning.proofs.Logic.{by-test, by-le, false-not-true}
 use Rattle.charset.specs.declared.Reading.{Reading}
 use Rattle.charset.specs.Reading.{readingAt, tokenAt, nextAt, afterEndAt, afterRowAt}
 use Rattle.charset.proofs.Positions.{read-over, row-over}
 use Rattle.charset.proofs.Laws.{ReadOn, read-at, tokens-end}
 use Rattle.rows.specs.declared.NextRow.{NextRow}
-use Rattle.rows.proofs.FirstRow.{afterRow, endFirst, withoutEnd, nextRows}
+use Rattle.rows.proofs.FirstRow.{afterRow, withoutEnd, nextRows}
 use Rattle.rows.specs.Scanned.{isEnded, nextRowAt, nextRow}
 use Rattle.rows.proofs.Laws.{after-none, after-end, after-more, ended-none, ended-more}
 

@@ -8,9 +8,10 @@ use lib.ListN.{drop}
 use Rattle.meaning.specs.declared.Token.{Token}
 use Rattle.meaning.specs.Codes.{tokens, isRowEnd}
 use Rattle.meaning.specs.Lists.{any}
-use Rattle.meaning.specs.Rows.{firstRow, rowsOf, evenFrom}
+use Rattle.meaning.specs.Rows.{firstRow, rowsOf, evenFrom, isShort}
 use Rattle.charset.specs.Reading.{tokenAt, afterEndAt, afterRowAt}
 use Rattle.rows.specs.declared.RowScan.{RowScan}
+use Rattle.rows.specs.declared.Row.{Row}
 use Rattle.rows.specs.declared.NextRow.{NextRow}
 use Rattle.rows.specs.declared.TextScan.{TextScan}
 use Rattle.rows.specs.Scanning.{factsOfRow, factsOfRows}
@@ -24,6 +25,12 @@ pub record Scanned (teletext : Bool) (s : List ℕ) (start : ℕ) (r : RowScan) 
   pub facts : r .facts ≡ factsOfRow teletext (firstRow (tokens (drop start s)))
   pub ended : r .ended ≡ isEnded (tokens (drop start s))
   pub next : r .next ≡ afterRowAt s start
+
+-- the row from a position on by itself
+unfoldable pub rowAt : List ℕ → ℕ → Row
+rowAt s start =
+    let ts = tokens (drop start s) in
+    record { short = isShort (firstRow ts); ended = isEnded ts; next = afterRowAt s start }
 
 -- where the row after a row end starts: the second row end of a pair is passed over
 unfoldable pub nextRowAt : List ℕ → Bool → ℕ → ℕ

@@ -2,17 +2,16 @@
 -- Assumes nothing.
 use Prim.Native.Nat.{ℕ, _+_, min}
 use mathlib.Core.Bool.{Bool, cond, not, _&&_, _||_}
-use mathlib.Core.List.{List, [], _∷_}
+use mathlib.Core.List.{List}
 use lib.Dec.{ltb, leb}
 use lib.ListN.{length}
 use Rattle.meaning.specs.declared.Token.{Token}
-use Rattle.meaning.specs.declared.Refusal.{Refusal}
 use Rattle.meaning.specs.declared.Format.{Format}
 use Rattle.meaning.specs.Lists.{all, any, keep}
-use Rattle.meaning.specs.Refusals.{firstBroken}
 use Rattle.meaning.specs.Codes.{isListed, isCharacter, takesCell, isDoubleHeight}
 use Rattle.meaning.specs.Rows.{heightFirst, rowLimit, isShort, linesOf}
 use Rattle.rows.specs.declared.RowFacts.{RowFacts}
+use Rattle.rows.specs.declared.Row.{Row}
 use Rattle.rows.specs.declared.TextFacts.{TextFacts}
 
 -- Cells and rows are counted up to it. It is above every limit that a rule sets, so no rule can tell such counts apart.
@@ -52,6 +51,10 @@ withCharacters f n =
       ordered = f .ordered;
     }
 
+-- a row by itself, with its end
+abbrev pub withEnd : RowFacts → Bool → ℕ → Row
+withEnd f ended next = record { short = leb (f .cells) rowLimit; ended = ended; next = next }
+
 -- the facts of all rows
 unfoldable pub factsOfRows : Bool → List (List Token) → TextFacts
 factsOfRows teletext rs =
@@ -74,11 +77,12 @@ withRow a f =
       rows = min (a .rows + 1) countLimit;
     }
 
--- the first of the rules 13 to 15 that the facts of a text break
-unfoldable pub ruleOf : TextFacts → Bool → Bool → Format → ℕ → ℕ → Refusal
-ruleOf t double even f place vp =
-    firstBroken place
-    ((13, t .listed)
-    ∷ (14, t .ordered && (double || not (t .height)) && even)
-    ∷ (15, t .short && leb (vp + linesOf double (record { 0 = t .rows }) .0) (f .screen .end))
-    ∷ [])
+-- the number of the first of the rules 13 to 15 that does not hold, 0 where all do
+unfoldable pub firstFailed : Bool → Bool → Bool → ℕ
+firstFailed listed heights fits = cond (not listed) 13 (cond (not heights) 14 (cond (not fits) 15 0))
+
+-- the rule that the facts of a text break
+unfoldable pub ruleOf : TextFacts → Bool → Bool → Format → ℕ → ℕ
+ruleOf t double even f vp =
+    firstFailed (t .listed) (t .ordered && (double || not (t .height)) && even)
+    (t .short && leb (vp + linesOf double (record { 0 = t .rows }) .0) (f .screen .end))

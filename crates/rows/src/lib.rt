@@ -1,14 +1,14 @@
-// The rules 13 to 15 over a set's text.
+// A text's rows, and which of the rules 13 to 15 it breaks. Where it breaks one is told by the crate faults.
 
 ghost use Prim.Native.Nat.{_+_, min};
 ghost use mathlib.Core.Path.{_≡_};
 ghost use Rattle.meaning.specs.Codes.{tokens, isRowEnd, isDoubleHeight};
-ghost use Rattle.meaning.specs.Rows.{isDouble, textRule};
-ghost use Rattle.rows.specs.Scanning.{countLimit, withToken, withCharacters, withRow, ruleOf};
-ghost use Rattle.rows.specs.Scanned.{Scanned, nextRowAt, nextRow, TextScanned};
+ghost use Rattle.meaning.specs.Rows.{isDouble};
+ghost use Rattle.meaning.specs.TextRules.{textRule};
+ghost use Rattle.rows.specs.Scanning.{countLimit, withToken, withCharacters, withEnd, withRow, firstFailed, ruleOf};
+ghost use Rattle.rows.specs.Scanned.{Scanned, rowAt, nextRowAt, nextRow, TextScanned};
 use meaning::Format;
 use meaning::ROW_LIMIT;
-use meaning::Refusal;
 use meaning::Rows;
 use meaning::Token;
 
@@ -28,6 +28,13 @@ struct RowScan {
     facts: RowFacts,
     ended: bool,
     next: usize,
+}
+
+// What a search needs of a row: whether it has few enough cells, whether a row end follows it, and the position after that.
+pub struct Row {
+    pub short: bool,
+    pub ended: bool,
+    pub next: usize,
 }
 
 // What is known of all rows, which are counted up to the same limit.
@@ -69,7 +76,7 @@ pub fn is_row_end(t: Token) -> bool
     }
 }
 
-fn is_double_height(t: Token) -> bool
+pub fn is_double_height(t: Token) -> bool
     ensures { λ r. ⌜ r ≡ isDoubleHeight t ⌝ }
 {
     match t {
@@ -131,6 +138,16 @@ impl RowFacts {
         f.character = self.character | (0 < n);
         f
     }
+
+    fn row(self, ended: bool, next: usize) -> Row
+        ensures { λ r. ⌜ r ≡ withEnd self ended next ⌝ }
+    {
+        Row {
+            short: self.cells <= ROW_LIMIT,
+            ended,
+            next,
+        }
+    }
 }
 
 impl TextFacts {
@@ -180,6 +197,26 @@ fn scan_row(text: &[u8], start: usize, teletext: bool) -> RowScan
         ended: false,
         next: i,
     }
+}
+
+// The row from a position on, for the search in a text that breaks a rule. It does not call `scan_row`: a third caller would keep
+// that from being compiled into the loops over the rows of every text.
+pub fn row_at(text: &[u8], start: usize) -> Row
+    ensures { λ r. ⌜ r ≡ rowAt (now (text .entry)) start ⌝ }
+{
+    let mut facts = RowFacts::NONE;
+    let mut i = start;
+    while i < text.len() {
+        let read = charset::reading_at(text, i);
+        let t = read.token;
+        if is_row_end(t) {
+            return facts.row(true, read.next);
+        }
+        // Whether it is listed is not read.
+        facts = facts.with_token(t, true);
+        i = read.next;
+    }
+    facts.row(false, i)
 }
 
 // The row after a row end: where it starts, and whether a second row end stands before it, where they are paired.
@@ -267,20 +304,35 @@ fn scan_after(text: &[u8], teletext: bool, paired: bool, first: RowScan) -> Text
     TextScan { facts, even }
 }
 
-fn rule_of(t: TextFacts, double: bool, even: bool, f: Format, place: u64, vp: u8) -> Refusal
-    ensures { λ r. ⌜ r ≡ ruleOf t double even f place vp ⌝ }
+// The number of the first of the rules 13, 14 and 15 that does not hold, or 0.
+fn first_failed(listed: bool, heights: bool, fits: bool) -> u64
+    ensures { λ r. ⌜ r ≡ firstFailed listed heights fits ⌝ }
+{
+    if !listed {
+        return 13;
+    }
+    if !heights {
+        return 14;
+    }
+    if !fits {
+        return 15;
+    }
+    0
+}
+
+fn rule_of(t: TextFacts, double: bool, even: bool, f: Format, vp: u8) -> u64
+    ensures { λ r. ⌜ r ≡ ruleOf t double even f vp ⌝ }
 {
     let screen = f.screen;
     let lines = Rows(t.rows).lines(double);
     let end = vp as u64 + lines.0;
-    let rule = Refusal::NONE.or(place, 13, t.listed);
-    let rule = rule.or(place, 14, t.ordered & (double | !t.height) & even);
-    rule.or(place, 15, t.short & (end <= screen.end as u64))
+    let heights = t.ordered & (double | !t.height) & even;
+    first_failed(t.listed, heights, t.short & (end <= screen.end as u64))
 }
 
-// The first of the rules 13, 14 and 15 that the text of a set breaks; the set begins at block `place`.
-pub fn text_rule(text: &[u8], f: Format, place: u64, vp: u8) -> Refusal
-    ensures { λ r. ⌜ r ≡ textRule f place vp (tokens (now (text .entry))) ⌝ }
+// The first of the rules 13, 14 and 15 that the text of a set breaks, or 0.
+pub fn verdict(text: &[u8], f: Format, vp: u8) -> u64
+    ensures { λ r. ⌜ r ≡ textRule f 0 vp (now (text .entry)) .number ⌝ }
 {
     let first = scan_row(text, 0, f.teletext);
     let facts = first.facts;
@@ -288,5 +340,5 @@ pub fn text_rule(text: &[u8], f: Format, place: u64, vp: u8) -> Refusal
     let paired = f.is_paired(double);
     let scan = scan_after(text, f.teletext, paired, first);
     let all = scan.facts;
-    rule_of(all, double, scan.even, f, place, vp)
+    rule_of(all, double, scan.even, f, vp)
 }

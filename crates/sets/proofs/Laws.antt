@@ -13,9 +13,9 @@ use borrow.Author.Tests.{eq-eqb, ne-eqb, leb-true, leb-false, le-leb, lt-leb, no
 use Rattle.meaning.specs.declared.Refusal.{Refusal}
 use Rattle.meaning.specs.declared.Header.{Header}
 use Rattle.meaning.specs.declared.Format.{Format}
-use Rattle.meaning.specs.Refusals.{noRefusal, isGood, firstBroken, inTurn}
-use Rattle.meaning.specs.Blocks.{headerOf, blockText, firstBlockRules}
-use Rattle.meaning.specs.Sets.{BlockSet, Event, unless, closeAtLast, opening, goesOn, agrees, continuing, isUser, advance}
+use Rattle.meaning.specs.Refusals.{noRefusal, isGood, firstBroken, inTurn, turns}
+use Rattle.meaning.specs.Blocks.{ebnAt, headerOf, blockText, firstBlockRules}
+use Rattle.meaning.specs.Sets.{BlockSet, Event, unless, closeAtLast, begins, opening, goesOn, agreementRules, continuing, isUser, advance}
 use Rattle.meaning.specs.Sets.Event.{broken}
 use Rattle.meaning.proofs.Logic.{by-test}
 use Rattle.meaning.proofs.RefusalLaws.{in-turn}
@@ -40,13 +40,13 @@ unless-bad r e h = rw (ne-eqb (r .number) 0 h, unless)
 
 -- a block where no set is open
 module _ (f : Format) (place : ℕ) (h : Header) (text : List ℕ) (least : ℕ) where
-  pub opening-wrong : (eqb (h .ebn) 0 || eqb (h .ebn) 255) ≡ false → opening f place h text least ≡ broken (record { number = 7; place = place })
-  unfolding opening firstBroken
+  pub opening-wrong : (eqb (h .ebn) 0 || eqb (h .ebn) 255) ≡ false → opening f place h text least ≡ broken (record { number = 7; place = place; offset = ebnAt })
+  unfolding opening begins firstBroken
   opening-wrong e = rw (e, firstBroken) (unless-bad _ _ (λ z. omega arith))
 
   module _ {r : Refusal} (e : (eqb (h .ebn) 0 || eqb (h .ebn) 255) ≡ true) (g : r ≡ firstBroken place (firstBlockRules f least h)) where
-    rules : firstBroken place ((7, eqb (h .ebn) 0 || eqb (h .ebn) 255) ∷ firstBlockRules f least h) ≡ r
-    unfolding firstBroken
+    rules : firstBroken place ((7, ebnAt, begins (h .ebn)) ∷ firstBlockRules f least h) ≡ r
+    unfolding firstBroken begins
     rules = rw (e, firstBroken, g)
 
     pub opening-broken : (r .number ≡ 0 → ⊥) → opening f place h text least ≡ broken r
@@ -58,9 +58,10 @@ module _ (f : Format) (place : ℕ) (h : Header) (text : List ℕ) (least : ℕ)
     opening-good z = rw rules (unless-good r _ z)
 
 -- a block of the open set, by the tests of rule 7
-module _ (place : ℕ) (h : Header) (text : List ℕ) (s : BlockSet) (least : ℕ) {a b : Bool} {q r : Refusal} (d : a ≡ goesOn (s .last) (h .ebn)) (e : q ≡ inTurn noRefusal place 7 a) (d′ : b ≡ agrees (s .first) h) (e′ : r ≡ inTurn q place 7 b) where
-  rule : firstBroken place ((7, goesOn (s .last) (h .ebn)) ∷ (7, agrees (s .first) h) ∷ []) ≡ r
-  rule = rw (e′, d′, e, d) (sym (in-turn place _ (omega arith)))
+module _ (place : ℕ) (h : Header) (text : List ℕ) (s : BlockSet) (least : ℕ) {a : Bool} {q r : Refusal} (d : a ≡ goesOn (s .last) (h .ebn)) (e : q ≡ inTurn noRefusal place 7 ebnAt a) (e′ : r ≡ turns place q (agreementRules (s .first) h)) where
+  rule : firstBroken place ((7, ebnAt, goesOn (s .last) (h .ebn)) ∷ agreementRules (s .first) h) ≡ r
+  unfolding agreementRules
+  rule = rw (e′, e, d) (sym (in-turn place _ (omega arith)))
 
   pub continuing-broken : (r .number ≡ 0 → ⊥) → continuing place h text s least ≡ broken r
   unfolding continuing

@@ -5,7 +5,8 @@ ghost use mathlib.Core.Path.{_≡_};
 ghost use mathlib.Core.List.{List};
 ghost use Prim.Native.Nat.{ℕ, _+_};
 ghost use lib.Dec.{leb};
-ghost use Rattle.meaning.specs.Sets.{closeAtLast, opening, goesOn, agrees, continuing};
+ghost use Rattle.meaning.specs.Refusals.{turns};
+ghost use Rattle.meaning.specs.Sets.{closeAtLast, opening, goesOn, agreementRules, continuing};
 ghost use Rattle.meaning.specs.Walk.{isOpen};
 ghost use Rattle.sets.specs.Assembling.{setWith, assemblyOf, textEnd, stepOf, stepIn, textAfter};
 use meaning::Format;
@@ -95,9 +96,13 @@ fn opening(f: Format, place: u64, h: Header, size: usize, least: u32) -> Step
 {
     let ebn = h.ebn;
     if !((ebn == 0) | (ebn == LAST)) {
-        return Step::Broken(Refusal { number: 7, place });
+        return Step::Broken(Refusal {
+            number: 7,
+            place,
+            offset: Header::EBN_AT as u64,
+        });
     }
-    let rule = stl::first_block_rule(f, place, least, h);
+    let rule = headers::first_block_rule(f, place, least, h);
     if rule.number != 0 {
         return Step::Broken(rule);
     }
@@ -116,10 +121,13 @@ fn goes_on(last: u8, ebn: u8) -> bool
     (ebn == LAST) | ((ebn as u32 == last as u32 + 1) & ((ebn as usize) < NUMBERED))
 }
 
-fn agrees(first: Header, h: Header) -> bool
-    ensures { λ r. ⌜ r ≡ agrees first h ⌝ }
+// All blocks of a set agree in SGN, SN and CF.
+fn agreement_rule(rule: Refusal, place: u64, first: Header, h: Header) -> Refusal
+    ensures { λ r. ⌜ r ≡ turns place rule (agreementRules first h) ⌝ }
 {
-    (h.sgn == first.sgn) & (h.sn == first.sn) & (h.cf == first.cf)
+    let rule = rule.or(place, 7, Header::SGN_AT as u64, h.sgn == first.sgn);
+    let rule = rule.or(place, 7, Header::SN_AT as u64, h.sn == first.sn);
+    rule.or(place, 7, Header::CF_AT as u64, h.cf == first.cf)
 }
 
 // A block of the open set, with which the set's text has the given size.
@@ -127,8 +135,9 @@ fn continuing(place: u64, h: Header, size: usize, set: Set, least: u32) -> Step
     ensures { λ r. ⌜ ((text part : List ℕ) → r ≡ stepOf size (continuing place h part (setWith set text) least)) ⌝ }
 {
     let first = set.first;
-    let rule = Refusal::NONE.or(place, 7, goes_on(set.last, h.ebn));
-    let rule = rule.or(place, 7, agrees(first, h));
+    let goes_on = goes_on(set.last, h.ebn);
+    let rule = Refusal::NONE.or(place, 7, Header::EBN_AT as u64, goes_on);
+    let rule = agreement_rule(rule, place, first, h);
     if rule.number != 0 {
         return Step::Broken(rule);
     }

@@ -1,17 +1,6 @@
 // The converting program of document 01: a digit for the break mode and then the file on standard input; the document or one line on standard output.
 
-// The most bytes of a file and of a document.
-const LIMIT: usize = 65536;
-
-fn mode_of(digit: u8) -> u64 {
-    if digit == b'1' {
-        1
-    } else if digit == b'2' {
-        2
-    } else {
-        0
-    }
-}
+use input::LIMIT;
 
 fn say_refused(number: u64, place: u64) {
     io::write_all(libc::STDOUT_FILENO, b"refused ");
@@ -32,7 +21,7 @@ fn main() {
         io::write_all(libc::STDOUT_FILENO, b"too long\n");
         return;
     }
-    let a = convert::convert(&file[..n], mode_of(digit[0]), &mut out);
+    let a = convert::convert(&file[..n], input::mode_of(digit[0]), &mut out);
     if a.number > 0 {
         say_refused(a.number, a.place);
         return;

@@ -15,7 +15,8 @@ use Rattle.meaning.specs.declared.Token.{Token}
 use Rattle.meaning.specs.Lists.{all, keep}
 use Rattle.meaning.specs.Refusals.{isGood}
 use Rattle.meaning.specs.Codes.{tokens, takesCell}
-use Rattle.meaning.specs.Rows.{isDouble, breaksPaired, rows, linesOf, rowCount, rowLimit, isShort, textRule, rowsOf}
+use Rattle.meaning.specs.Rows.{isDouble, breaksPaired, rows, linesOf, rowCount, rowLimit, isShort, rowsOf}
+use Rattle.meaning.specs.TextRules.{textRule}
 use Rattle.meaning.specs.declared.Look.{Look}
 use Rattle.meaning.specs.Looks.{whiteOnBlack, pack, unpack}
 use Rattle.meaning.proofs.LookLaws.{white-bits, unpack-pack}
@@ -79,9 +80,9 @@ uncut-rows l (r ∷ rs) e =
 
 -- the content of a text within the rules 13 to 15 is that of its subtitle
 pub content-whole :
-    (f : Format) (place vp : ℕ) (text : List ℕ) → isGood (textRule f place vp (tokens text)) ≡ true
+    (f : Format) (place vp : ℕ) (text : List ℕ) → isGood (textRule f place vp text) ≡ true
     → contentOf f vp text ≡ pieces (f .screen .end) vp (isDouble (tokens text)) (cellRows (whiteOnBlack (isDouble (tokens text))) (rows (f .mode) (tokens text)))
 unfolding contentOf
 content-whole f place vp text e =
     ap (pieces (f .screen .end) vp (isDouble (tokens text)))
-    (uncut-rows (whiteOnBlack (isDouble (tokens text))) (rows (f .mode) (tokens text)) (rows-fit f place vp (tokens text) e .0))
+    (uncut-rows (whiteOnBlack (isDouble (tokens text))) (rows (f .mode) (tokens text)) (rows-fit f place vp text e .0))

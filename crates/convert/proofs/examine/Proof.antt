@@ -10,10 +10,10 @@ returns c = answered-rule _ _ (c .before .before .before .file-rule .ensures) _ 
 
 returns-2 : tie.Need-returns-2
 returns-2 c =
-    let n = c .before .before .before in
+    let n = c .before .before .before .before in
     let i = n .before .before in
     answered-walk _ _ (i .before .before .file-rule .ensures) (i .if1 .left) _ _ (n .before .format .ensures) (n .block-count .ensures)
-    (c .before .before .check-blocks .ensures) (c .before .answer-of .ensures)
+    (c .before .before .before .check-blocks .ensures) (c .before .before .answer-of .ensures)
 
 pub examine-spec : {M : Type 1} → statement M
 examine-spec =

@@ -1,11 +1,9 @@
--- `rule_of` tests the facts of a text in the rules' order.
+-- `rule_of` makes the rules' tests of the facts of a text.
 -- Assumes nothing.
 use native.Mathlib.Omega.{arith}
 use mathlib.Core.Path.{ap}
 use borrow.Author.Needs.{needs}
 use Rattle.meaning.specs.declared.Lines.{Lines}
-use Rattle.meaning.specs.Refusals.{noRefusal}
-use Rattle.meaning.proofs.RefusalLaws.{in-turn}
 use Rattle.rows.proofs.Laws.{lines-le}
 use Rattle.rows.specs.Scanning.{ruleOf}
 use Rattle.rows.proofs.rule_of.Statement.{statement}
@@ -17,13 +15,8 @@ add-end c =
     omega (arith, ap (λ (l : Lines). l .0) (c .before .lines .ensures), lines-le (a .double) (record { 0 = a .t .rows }))
 
 returns : tie.Need-returns
-unfolding ruleOf noRefusal
-returns c =
-    let d = c .before .before .before in
-    rw (c .or3 .ensures, d .or2 .ensures, d .before .before .before .or .ensures, d .before .before .before .before .before .lines .ensures)
-    (in-turn _ _ (omega arith))
+unfolding ruleOf
+returns c = rw (c .first-failed .ensures, c .before .before .before .before .before .before .lines .ensures)
 
 pub rule-of-spec : {M : Type 1} → statement M
-rule-of-spec =
-    tie.close (tie.spec (λ c κs. search needs) add-end (λ c κs. search needs) (λ c κs. search needs) (λ c. search needs) (λ c κs. search needs)
-    returns)
+rule-of-spec = tie.close (tie.spec (λ c κs. search needs) add-end (λ c. search needs) (λ c κs. search needs) returns)
