@@ -1,4 +1,4 @@
-/* The proved converter from EBU STL to EBU-TT, for callers in C. Link libmilursake.a. */
+/* The proved converter from EBU STL to EBU-TT, and the reason for a refusal, for callers in C. Link libmilursake.a. */
 #ifndef MILURSAKE_H
 #define MILURSAKE_H
 
@@ -25,10 +25,27 @@ extern "C" {
  * Calls may run at the same time, each with buffers of its own. A call needs less than MILURSAKE_STACK bytes of stack,
  * however long the file is; this is measured (tests/from_c.c) and not proved.
  */
-#define MILURSAKE_STACK 40000
+#define MILURSAKE_STACK 80000
 
 uint64_t milursake_convert(const uint8_t *file, size_t file_len, uint64_t mode, uint8_t *out, size_t out_len,
                            uint64_t *answer, size_t answer_len);
+
+/*
+ * Tells why a file is refused. Returns the number that milursake_convert would return for a buffer of `room` bytes; nothing
+ * is converted. What is said above of buffers, pointers, calls at the same time and the stack holds here too.
+ *
+ * mode     the break mode, as above
+ * room     the length of the buffer; it counts for refusal 16 only
+ * reason   as many as it has room for of: number, block, offset, 1 or 0 for a byte or none, the byte or 0
+ *
+ * number   as above, 0 for a file that is accepted
+ * block    the place of milursake_convert's answer: the block, or the first block of the set, counted from 0
+ * offset   of the first byte in the file that breaks the rule: of the field, code, accent pair, run of row ends or row; the
+ *          length of the file, with no byte, for 0, 1, 2, 16 and a set open at the end
+ * byte     the byte of the file at the offset
+ */
+uint64_t milursake_explain(const uint8_t *file, size_t file_len, uint64_t mode, uint64_t room, uint64_t *reason,
+                           size_t reason_len);
 
 #ifdef __cplusplus
 }

@@ -1,6 +1,7 @@
 /*
- * Calls the converter from C, as the header says, on a stack that was painted before: `from_c FILE...`.
- * Prints for each file how much of the stack was used. Status 1 if that is not less than the header says.
+ * Calls the converter and the explainer from C, as the header says, on a stack that was painted before: `from_c FILE...`.
+ * Prints for each file how much of the stack was used. Status 1 if that is not less than the header says, or if the two
+ * do not agree.
  */
 #define _XOPEN_SOURCE 700
 #include "milursake.h"
@@ -14,6 +15,7 @@ enum { STACK = 1 << 20, PAINT = 0xA5, GSI = 1024, BLOCK = 128, SET = 241, MOST =
 struct call {
     const uint8_t *file;
     size_t length;
+    int explains;
     uint64_t number;
     size_t used;
 };
@@ -21,37 +23,60 @@ struct call {
 static _Alignas(4096) uint8_t stack[STACK];
 static uint8_t file[GSI + MOST * BLOCK], out[ROOM];
 
-/* Paints the stack below its own frame, converts, and looks how far the paint is gone. */
-static void *convert(void *given)
+/* The reason for the answer: a file is named by its length where it is accepted. */
+static uint64_t explain(const struct call *call)
+{
+    uint64_t reason[5];
+    uint64_t number = milursake_explain(call->file, call->length, 1, sizeof out, reason, 5);
+    if (reason[0] != number || (number == 0 && (reason[2] != call->length || reason[3] != 0)))
+        exit(1);
+    return number;
+}
+
+/* Paints the stack below its own frame, converts or explains, and looks how far the paint is gone. */
+static void *run(void *given)
 {
     struct call *call = given;
     uint8_t *here = __builtin_frame_address(0), *deepest = stack;
     uint64_t answer[8];
     for (volatile uint8_t *byte = stack; byte < here - 512; byte++)
         *byte = PAINT;
-    call->number = milursake_convert(call->file, call->length, 1, out, sizeof out, answer, 8);
+    call->number = call->explains ? explain(call)
+                                  : milursake_convert(call->file, call->length, 1, out, sizeof out, answer, 8);
     while (*deepest == PAINT)
         deepest++;
     call->used = (size_t)(here - deepest);
     return NULL;
 }
 
-static struct call called(size_t length)
+static struct call called(size_t length, int explains)
 {
-    struct call call = {file, length, 0, 0};
+    struct call call = {file, length, explains, 0, 0};
     pthread_attr_t attributes;
     pthread_t thread;
     if (pthread_attr_init(&attributes) || pthread_attr_setstack(&attributes, stack, sizeof stack) ||
-        pthread_create(&thread, &attributes, convert, &call) || pthread_join(thread, NULL))
+        pthread_create(&thread, &attributes, run, &call) || pthread_join(thread, NULL))
         exit(2);
     return call;
 }
 
 static void fits(const char *name, struct call call)
 {
-    printf("%s: number %d, %zu bytes of stack\n", name, (int)call.number, call.used);
+    printf("%s: %s number %d, %zu bytes of stack\n", name, call.explains ? "explained," : "converted,", (int)call.number,
+           call.used);
     if (call.used >= MILURSAKE_STACK)
         exit(1);
+}
+
+/* Both calls over what stands in `file`; gives that of the converter. */
+static struct call both(const char *name, size_t length)
+{
+    struct call converted = called(length, 0), explained = called(length, 1);
+    fits(name, converted);
+    fits(name, explained);
+    if (converted.number != explained.number)
+        exit(1);
+    return converted;
 }
 
 static size_t read_file(const char *name)
@@ -102,9 +127,7 @@ static size_t longest_sets(int sets)
 int main(int count, char **names)
 {
     for (int i = 1; i < count; i++)
-        fits(names[i], called(read_file(names[i])));
-    struct call one = called(longest_sets(1)), many = called(longest_sets(MOST / SET));
-    fits("a set of 241 blocks", one);
-    fits("414 such sets", many);
+        both(names[i], read_file(names[i]));
+    struct call one = both("a set of 241 blocks", longest_sets(1)), many = both("414 such sets", longest_sets(MOST / SET));
     return one.number || many.number || one.used != many.used;
 }

@@ -1,11 +1,13 @@
 //! Links an earlier proved library too, if MILURSAKE_BEFORE names the directory
-//! that holds it: libmilursake.a, or libconvert.a as it was called once. Its one
-//! function gets another name, so that both can be linked.
+//! that holds it: libmilursake.a, or libconvert.a as it was called once. Its
+//! functions get other names, so that both can be linked; an earlier one may have
+//! no milursake_explain, which does not matter.
 
 use std::path::{Path, PathBuf};
 use std::process::Command;
 
 const NAMES: [&str; 2] = ["libmilursake.a", "libconvert.a"];
+const FUNCTIONS: [&str; 2] = ["milursake_convert", "milursake_explain"];
 
 fn main() {
     println!("cargo:rustc-check-cfg=cfg(before)");
@@ -15,7 +17,7 @@ fn main() {
     println!("cargo:rerun-if-changed={}", archive.display());
     let out = PathBuf::from(std::env::var("OUT_DIR").unwrap());
     let renamed = Command::new("objcopy")
-        .arg("--redefine-sym=milursake_convert=milursake_convert_before")
+        .args(FUNCTIONS.map(|name| format!("--redefine-sym={name}={name}_before")))
         .args([&archive, &out.join("libbefore.a")])
         .status();
     assert!(renamed.is_ok_and(|status| status.success()), "objcopy cannot rename in {}", archive.display());

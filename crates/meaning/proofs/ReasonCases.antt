@@ -1,4 +1,4 @@
--- Cases of document 02, request 3: for each rule, and each kind within a rule, the number, the block, the offset and the byte, computed.
+-- Cases of document 02, request 3: for each rule, and for most kinds within a rule, the number, the block, the offset and the byte, computed.
 -- Assumes nothing.
 use Prim.Native.Nat.{ℕ}
 use mathlib.Core.Bool.{Bool, true, false, _&&_}

@@ -1,12 +1,16 @@
-// The converter for callers in other languages.
+// The converter, and the reason for a refusal, for callers in other languages.
 
 ghost use mathlib.Core.Path.{_≡_};
 ghost use lib.ListN.{length, set};
 ghost use Rattle.meaning.specs.Conversion.{answer, output};
 ghost use Rattle.laws.specs.Demands.{FewestSpans};
 ghost use Rattle.output.specs.Output.{stored};
-ghost use Rattle.milursake.specs.Numbers.{numbersOf};
+ghost use Rattle.reasons.specs.Explained.{Told};
+ghost use Rattle.meaning.specs.Reasons.{reason};
+ghost use Rattle.milursake.specs.Numbers.{numbersOf, presenceOf, valueOf, reasonNumbers};
 use meaning::Answer;
+use meaning::FileByte;
+use meaning::Reason;
 
 fn put_number(numbers: &mut [u64], i: usize, n: u64)
     ensures { λ _. ⌜ now (numbers .exit) ≡ set (now (numbers .entry)) i n ⌝ }
@@ -40,10 +44,57 @@ pub extern "C" fn milursake_convert(
 ) -> u64
     ensures number { λ r. ⌜ r ≡ answer mode (now (file .entry)) (length (now (out .entry))) .number ⌝ }
     ensures buffer { λ r. ⌜ now (out .exit) ≡ output mode (now (file .entry)) (now (out .entry)) ⌝ }
-    ensures told { λ r. ⌜ now (numbers .exit) ≡ stored (now (numbers .entry)) 0 (numbersOf (answer mode (now (file .entry)) (length (now (out .entry))))) ⌝ }
+    ensures stored { λ r. ⌜ now (numbers .exit) ≡ stored (now (numbers .entry)) 0 (numbersOf (answer mode (now (file .entry)) (length (now (out .entry))))) ⌝ }
     ensures fewest { λ r. ⌜ (r ≡ 0 → FewestSpans mode (now (file .entry)) (answer mode (now (file .entry)) (length (now (out .entry)))) (now (out .exit))) ⌝ }
 {
     let a = convert::convert(file, mode, out);
     put_answer(numbers, a);
     a.number
+}
+
+// 1 for a byte, 0 for none.
+fn presence(byte: FileByte) -> u64
+    ensures { λ r. ⌜ r ≡ presenceOf byte ⌝ }
+{
+    match byte {
+        FileByte::Absent => 0,
+        FileByte::Present(_) => 1,
+    }
+}
+
+// The byte, 0 for none.
+fn value(byte: FileByte) -> u64
+    ensures { λ r. ⌜ r ≡ valueOf byte ⌝ }
+{
+    match byte {
+        FileByte::Absent => 0,
+        FileByte::Present(b) => b as u64,
+    }
+}
+
+// The numbers of a reason, as many as there is room for.
+fn put_reason(numbers: &mut [u64], r: Reason)
+    ensures { λ _. ⌜ now (numbers .exit) ≡ stored (now (numbers .entry)) 0 (reasonNumbers r) ⌝ }
+{
+    let byte = r.byte;
+    let presence = presence(byte);
+    let value = value(byte);
+    put_number(numbers, 0, r.number);
+    put_number(numbers, 1, r.block);
+    put_number(numbers, 2, r.offset);
+    put_number(numbers, 3, presence);
+    put_number(numbers, 4, value);
+}
+
+// Why a file is refused, for a buffer of `room` bytes: the refusal's number, or 0. As many as `numbers` has room for of number, block,
+// offset, 1 or 0 for a byte or none, and the byte or 0 are stored there.
+#[no_mangle]
+pub extern "C" fn milursake_explain(file: &[u8], mode: u64, room: u64, numbers: &mut [u64]) -> u64
+    ensures number { λ r. ⌜ r ≡ reason mode (now (file .entry)) room .number ⌝ }
+    ensures stored { λ r. ⌜ now (numbers .exit) ≡ stored (now (numbers .entry)) 0 (reasonNumbers (reason mode (now (file .entry)) room)) ⌝ }
+    ensures told { λ r. ⌜ Told mode (now (file .entry)) room (reason mode (now (file .entry)) room) ⌝ }
+{
+    let r = explain::explain(file, mode, room as usize);
+    put_reason(numbers, r);
+    r.number
 }

@@ -27,11 +27,11 @@ pub struct Converter {
 }
 
 impl Converter {
-    fn new(convert: Convert, room: usize) -> Converter {
+    pub fn new(convert: Convert, room: usize) -> Converter {
         Converter { convert, out: vec![0; room], best: Duration::MAX }
     }
 
-    fn convert(&mut self, file: &[u8]) -> [u64; 8] {
+    pub fn convert(&mut self, file: &[u8]) -> [u64; 8] {
         (self.convert)(black_box(file), black_box(&mut self.out))
     }
 
@@ -51,7 +51,7 @@ impl Converter {
         start.elapsed() / repeats
     }
 
-    fn measure(&mut self, file: &[u8], repeats: u32, measurements: u32) {
+    pub fn measure(&mut self, file: &[u8], repeats: u32, measurements: u32) {
         for _ in 0..measurements {
             self.best = self.best.min(self.time(file, repeats));
         }
@@ -78,10 +78,7 @@ impl Race {
         let mut race = Race { input, proved, second, before: None, repeats: 1, measurements: 1 };
         let answer = race.compare();
         race.before = BEFORE.map(new).and_then(|before| before.if_it_gives(answer, &race.input.file));
-        let Race { input, proved, .. } = &mut race;
-        let once = proved.time(&input.file, 1);
-        race.repeats = times(MEASUREMENT, once);
-        race.measurements = times(TURN, once * race.repeats);
+        (race.repeats, race.measurements) = repeats_and_measurements(&mut race.proved, &race.input.file);
         race
     }
 
@@ -103,6 +100,13 @@ impl Race {
             converter.measure(&input.file, *repeats, *measurements);
         }
     }
+}
+
+/// How many conversions make a measurement, and how many measurements a turn.
+pub fn repeats_and_measurements(converter: &mut Converter, file: &[u8]) -> (u32, u32) {
+    let once = converter.time(file, 1);
+    let repeats = times(MEASUREMENT, once);
+    (repeats, times(TURN, once * repeats))
 }
 
 /// How often a time goes into a longer one, at least once.

@@ -20,6 +20,8 @@ impl Input {
 pub const SHORTER: &str = "10,000 blocks";
 pub const LARGEST: &str = "largest file";
 
+const REFUSED: &str = "refused at its last block";
+
 const SEED: u64 = 3264;
 
 /// MNR of the open film.
@@ -33,10 +35,58 @@ pub fn inputs() -> Vec<Input> {
         Input { name: "feature film", file: file(25, &film) },
         Input { name: "colour changes", file: file(25, &colourful(&mut dice, 1500)) },
         Input { name: "open film", file: open_file(25, OPEN_ROWS, &open(&mut Dice::new(SEED), 1500)) },
-        Input { name: "refused at its last block", file: file(25, &spoiled(film)) },
+        Input { name: REFUSED, file: file(25, &with_last_text(film, b"\x7F", b"")) },
         Input { name: SHORTER, file: file(25, &long(&mut dice, 10_000)) },
         Input { name: LARGEST, file: file(25, &long(&mut dice, 99_999)) },
     ]
+}
+
+/// Films that are refused for a text fault in their last set.
+pub fn refused() -> Vec<Input> {
+    let good = film(&mut Dice::new(SEED), 1500);
+    let film = |first: &[u8], second: &[u8]| file(25, &with_last_text(good.clone(), first, second));
+    vec![
+        Input { name: REFUSED, file: film(b"\x7F", b"") },
+        // A pair over a block's end, 0Dh after a character, a row past the last
+        // line.
+        Input { name: "13 in the last set", file: film(b"\xC2", b"q") },
+        Input { name: "14 in the last set", file: film(b"", b"A\x0D") },
+        Input { name: "15 in the last set", file: film(b"", b"\x8A") },
+    ]
+}
+
+/// The longest set there can be, refused for its last bytes.
+pub fn longest_refused() -> Vec<Input> {
+    let switches = |end: &[u8]| open_file(25, 1, &longest_set(0, 0x80, end));
+    vec![
+        Input { name: "13 in the longest set", file: switches(b"\x7F") },
+        Input { name: "14 in the longest set", file: file(25, &longest_set(20, 0x01, b"A\x0D")) },
+        Input { name: "15 in the longest set", file: switches(b"\x8A") },
+    ]
+}
+
+/// Adds to the text of the last subtitle; the second text stands in a block of
+/// its own.
+fn with_last_text(mut film: Vec<Tti>, first: &[u8], second: &[u8]) -> Vec<Tti> {
+    let Some(last) = film.last_mut() else { return film };
+    last.text.extend(first);
+    if !second.is_empty() {
+        let closing = Tti { text: second.to_vec(), ..last.clone() };
+        last.ebn = 0x00;
+        film.push(closing);
+    }
+    film
+}
+
+/// 241 blocks full of one code, with this end.
+fn longest_set(vp: u8, code: u8, end: &[u8]) -> Vec<Tti> {
+    let ebns = (0x00..=0xEF).chain([0xFF]);
+    let mut set: Vec<Tti> = ebns.map(|ebn| Tti { ebn, vp, ..tti(&[code; 112]) }).collect();
+    if let Some(last) = set.last_mut() {
+        let start = last.text.len() - end.len();
+        last.text[start..].copy_from_slice(end);
+    }
+    set
 }
 
 /// Subtitles of two rows in double height, one block each.
@@ -52,14 +102,6 @@ fn colourful(dice: &mut Dice, subtitles: usize) -> Vec<Tti> {
 /// Subtitles of two rows, of open subtitles.
 fn open(dice: &mut Dice, subtitles: usize) -> Vec<Tti> {
     (0..subtitles).map(|number| subtitle(number, &[open_row(dice), open_row(dice)])).collect()
-}
-
-/// A code that is in no table, in the last block.
-fn spoiled(mut film: Vec<Tti>) -> Vec<Tti> {
-    if let Some(last) = film.last_mut() {
-        last.text.push(0x7F);
-    }
-    film
 }
 
 /// Very long files. SN has 16 bits, so 99,999 blocks cannot be as many sets: of

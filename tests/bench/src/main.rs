@@ -1,39 +1,48 @@
 //! The proved converter and the second converter on the same inputs, in turn, and
-//! with them an earlier proved one if MILURSAKE_BEFORE names its library. Prints
-//! tables in Markdown.
+//! with them an earlier proved one if MILURSAKE_BEFORE names its library; then the
+//! proved explainer beside the proved converter on refused files. Prints tables in
+//! Markdown. Status 1 if the explanation of a film takes more than twice as long
+//! as its conversion.
 //!
-//! `bench files DIR` writes the inputs to files; `bench proved|second|before FILE N`
-//! converts a file N times and does nothing else, for a profiler.
+//! `bench files DIR` writes the inputs to files; `bench
+//! proved|second|before|explain FILE N` takes a file N times and does nothing
+//! else, for a profiler.
 
 mod before;
 mod converter;
 mod inputs;
+mod reasons;
 mod single;
 mod words;
 
 use before::BEFORE;
 use converter::Race;
-use inputs::{inputs, LARGEST, SHORTER};
+use inputs::{inputs, longest_refused, refused, LARGEST, SHORTER};
+use reasons::{Reason, MOST};
+use std::process::ExitCode;
 use std::time::{Duration, Instant};
 
 /// Rounds over all inputs; the best counts, because whatever else runs can only
 /// make a conversion longer. Fewer if they take too long.
 const ROUNDS: usize = 60;
-const LONGEST: Duration = Duration::from_secs(30);
+const LONGEST: Duration = Duration::from_secs(40);
 
-fn main() {
+fn main() -> ExitCode {
     let arguments: Vec<String> = std::env::args().skip(1).collect();
     if !arguments.is_empty() {
         single::run(&arguments);
-        return;
+        return ExitCode::SUCCESS;
     }
     let mut races: Vec<Race> = inputs().into_iter().map(Race::new).collect();
+    let mut films: Vec<Reason> = refused().into_iter().map(Reason::new).collect();
+    let mut longest: Vec<Reason> = longest_refused().into_iter().map(Reason::new).collect();
     let start = Instant::now();
     let mut rounds = 0;
     // Round after round over all inputs, so that a slow spell does not fall on
     // one of them alone.
     while rounds < ROUNDS && (rounds == 0 || start.elapsed() < LONGEST) {
         races.iter_mut().for_each(|race| race.measure(rounds));
+        films.iter_mut().chain(&mut longest).for_each(|reason| reason.measure(rounds));
         rounds += 1;
     }
     print_speeds(&races, rounds);
@@ -41,6 +50,14 @@ fn main() {
     if let (Some(shorter), Some(largest)) = (named(SHORTER), named(LARGEST)) {
         println!();
         print_growth(shorter, largest);
+    }
+    println!();
+    let highest = films.iter().map(Reason::ratio).fold(0.0, f64::max);
+    print_reasons(films.iter().chain(&longest), highest);
+    if highest <= MOST {
+        ExitCode::SUCCESS
+    } else {
+        ExitCode::FAILURE
     }
 }
 
@@ -95,6 +112,30 @@ fn print_growth(shorter: &Race, largest: &Race) {
 
 fn print_factor(name: &str, short: f64, long: f64) {
     println!("| {name} | {short:.0} | {long:.0} | {:.2} |", long / short);
+}
+
+fn print_reasons<'a>(reasons: impl Iterator<Item = &'a Reason>, highest: f64) {
+    println!("| Refused input | Number | Blocks | Converter, µs | Explainer, µs | Ratio |");
+    println!("|---|---:|---:|---:|---:|---:|");
+    for reason in reasons {
+        println!(
+            "| {} | {} | {} | {:.1} | {:.1} | {:.2} |",
+            reason.input.name,
+            reason.number,
+            grouped(reason.input.blocks()),
+            microseconds(reason.convert.best),
+            microseconds(reason.explain.best),
+            reason.ratio(),
+        );
+    }
+    println!();
+    println!("Both proved, on the same file in turn. Ratio: how many times as long as the conversion the");
+    println!("explanation takes; at most {MOST} is asked of films, and their highest is {highest:.2}. The");
+    println!("longest set has 241 full blocks and is the whole file, so its text is most of the work.");
+}
+
+fn microseconds(time: Duration) -> f64 {
+    1e6 * time.as_secs_f64()
 }
 
 /// Nanoseconds per block.

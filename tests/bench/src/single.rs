@@ -2,7 +2,8 @@
 
 use crate::before::BEFORE;
 use crate::converter::{by_proved, by_second, room};
-use crate::inputs::inputs;
+use crate::inputs::{inputs, longest_refused, refused};
+use crate::reasons::by_explainer;
 use std::hint::black_box;
 use std::path::Path;
 
@@ -11,12 +12,12 @@ pub fn run(arguments: &[String]) {
     match arguments[..] {
         ["files", directory] => write_files(Path::new(directory)),
         [converter, file, times] => convert(converter, file, times.parse().expect("a number")),
-        _ => panic!("usage: bench [files DIR | proved|second|before FILE N]"),
+        _ => panic!("usage: bench [files DIR | proved|second|before|explain FILE N]"),
     }
 }
 
 fn write_files(directory: &Path) {
-    for input in inputs() {
+    for input in [inputs(), refused(), longest_refused()].into_iter().flatten() {
         let name = input.name.replace([' ', ','], "-") + ".stl";
         std::fs::write(directory.join(name), &input.file).expect("the folder takes the files");
     }
@@ -27,6 +28,7 @@ fn convert(converter: &str, file: &str, times: usize) {
         "proved" => by_proved,
         "second" => by_second,
         "before" => BEFORE.expect("MILURSAKE_BEFORE was not set when this was built"),
+        "explain" => by_explainer,
         _ => panic!("no such converter: {converter}"),
     };
     let file = std::fs::read(file).expect("a file");

@@ -1,4 +1,4 @@
-//! The proved converter behind one safe function.
+//! The proved converter and the proved explainer behind two safe functions.
 
 extern "C" {
     fn milursake_convert(
@@ -9,6 +9,15 @@ extern "C" {
         out_len: usize,
         answer: *mut u64,
         answer_len: usize,
+    ) -> u64;
+
+    fn milursake_explain(
+        file: *const u8,
+        file_len: usize,
+        mode: u64,
+        room: u64,
+        reason: *mut u64,
+        reason_len: usize,
     ) -> u64;
 }
 
@@ -29,4 +38,14 @@ pub fn convert(file: &[u8], mode: u64, out: &mut [u8], answer: &mut [u64]) -> u6
             answer.len(),
         )
     }
+}
+
+/// Names the byte for which the file is refused with a buffer of `room` bytes.
+/// Gives the number of the refusal, or 0; `reason` receives as many of the five
+/// numbers as it has room for.
+pub fn explain(file: &[u8], mode: u64, room: u64, reason: &mut [u64]) -> u64 {
+    // SAFETY: each pointer comes with the length of its own slice, the slices
+    // live through the call, and the one that is written to is lent to nobody
+    // else.
+    unsafe { milursake_explain(file.as_ptr(), file.len(), mode, room, reason.as_mut_ptr(), reason.len()) }
 }

@@ -1,12 +1,13 @@
-//! Compares the proved converter with the second one: `harness [N] [FIRST]`,
-//! N files (200,000) from seed FIRST (0).
+//! Compares the proved converter with the second one, and what both say to "Tell
+//! me why": `harness [N] [FIRST]`, N files (200,000) from seed FIRST (0).
 //!
-//! Status 1 if any answer or any byte of a buffer differs, or if the files are
-//! too much of one kind to say anything.
+//! Status 1 if any answer, any byte of a buffer or any reason differs, or if the
+//! files are too much of one kind to say anything.
 
 mod compare;
+mod reasons;
 
-use compare::{compare, Difference};
+use compare::compare;
 use second::make::{sample, Sample};
 use std::process::ExitCode;
 
@@ -16,8 +17,12 @@ const FILES: u64 = 200_000;
 /// again by itself.
 const ENOUGH_TO_JUDGE: u64 = 20_000;
 
-/// Every so many files the odd arrays and the empty buffer are tried too.
+/// Every so many files the odd arrays and the odd buffers are tried too.
 const ODD_CALLS: u64 = 10;
+
+/// Arrays for the five numbers of a reason: exact, and too short or too long.
+const EXACT: usize = 5;
+const ODD_LENGTHS: [usize; 3] = [0, 3, 9];
 
 fn main() -> ExitCode {
     let Some((files, first)) = arguments() else {
@@ -61,19 +66,40 @@ fn arguments() -> Option<(u64, u64)> {
 }
 
 /// The number of the answer, and the first difference if there is one.
-fn try_seed(seed: u64) -> (u64, Option<Difference>) {
+fn try_seed(seed: u64) -> (u64, Option<String>) {
     let sample = sample(seed);
     let (number, difference) = compare(&sample, sample.room, 8, seed);
+    let difference = difference.map(|difference| difference.to_string()).or_else(|| reason(&sample, seed));
     if difference.is_some() || !seed.is_multiple_of(ODD_CALLS) {
         return (number, difference);
     }
-    (number, odd_calls(&sample, seed))
+    (number, odd_calls(&sample, seed).or_else(|| odd_reasons(&sample, seed)))
 }
 
 /// Arrays too short and too long, and an empty buffer.
-fn odd_calls(sample: &Sample, seed: u64) -> Option<Difference> {
+fn odd_calls(sample: &Sample, seed: u64) -> Option<String> {
     let calls = [(sample.room, 0), (sample.room, 3), (sample.room, 11), (0, 8), (0, 0)];
-    calls.into_iter().find_map(|(room, answer_len)| compare(sample, room, answer_len, !seed).1)
+    let mut differences =
+        calls.into_iter().map(|(room, answer_len)| compare(sample, room, answer_len, !seed).1);
+    differences.find_map(|difference| Some(difference?.to_string()))
+}
+
+/// The reason in an array that is long enough, and in one that is not, or is too
+/// long.
+fn reason(sample: &Sample, seed: u64) -> Option<String> {
+    let odd = ODD_LENGTHS[seed as usize % ODD_LENGTHS.len()];
+    let difference = reasons::compare(sample, sample.room as u64, &[EXACT, odd], seed)?;
+    Some(difference.to_string())
+}
+
+/// All arrays, for a buffer that is empty, small, one byte too short, exactly long
+/// enough, and huge.
+fn odd_reasons(sample: &Sample, seed: u64) -> Option<String> {
+    let needed = second::convert(&sample.file, sample.mode, &mut []).length;
+    let rooms = [0, 1, 100, needed.saturating_sub(1), needed, needed + 1, 1 << 40, u64::MAX];
+    let lengths = [ODD_LENGTHS[0], ODD_LENGTHS[1], EXACT, ODD_LENGTHS[2]];
+    let mut differences = rooms.into_iter().map(|room| reasons::compare(sample, room, &lengths, !seed));
+    differences.find_map(|difference| Some(difference?.to_string()))
 }
 
 fn print_tally(tally: &[u64; 17], files: u64) {

@@ -1,7 +1,7 @@
 //! An independent second converter from EBU STL subtitle files to EBU-TT
-//! documents, written from document 01 (the rules), from requests 1 and 2 of
-//! document 02 (open subtitles, text after the end box) and from Appendix B of
-//! document 004 (the Latin table) alone.
+//! documents, written from document 01 (the rules), from requests 1 to 3 of
+//! document 02 (open subtitles, text after the end box, "Tell me why") and from
+//! Appendix B of document 004 (the Latin table) alone.
 //!
 //! * [`characters`]: codes and accent pairs to characters
 //! * [`file`]: where the bytes of the file stand
@@ -9,6 +9,8 @@
 //! * [`text`]: a set's text to rows of spans
 //! * [`document`]: the words of the document
 //! * [`convert`](mod@convert): the order of the tests and the answer
+//! * [`explain`](mod@explain): which byte breaks the rule
+//! * [`program`]: the input of the programs
 //! * [`dice`]: chance from a seed
 //! * [`make`]: test files from a seed
 //! * [`assemble`]: files put together field by field
@@ -19,11 +21,14 @@ pub mod convert;
 pub mod dice;
 pub mod display;
 pub mod document;
+pub mod explain;
 pub mod file;
 pub mod make;
+pub mod program;
 pub mod text;
 
 pub use convert::convert;
+pub use explain::{explain, Explanation};
 
 /// "Every answer holds number, place, a length and five counts."
 #[derive(PartialEq, Eq, Debug, Clone, Copy, Default)]

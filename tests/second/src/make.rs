@@ -4,7 +4,9 @@
 //! A sample is made in this order: a good file with chance in all that the
 //! rules leave open; then, in some samples, one fault or several, each aimed at
 //! one number of "What comes back" (they may hide one another, which tests the
-//! order); last, the room of the buffer.
+//! order); last, the room of the buffer. Other samples stand for lines of the
+//! papers, for the largest sets, for texts of any codes, or for one kind of fault
+//! within a number.
 
 mod boxes;
 mod header;
@@ -17,6 +19,7 @@ mod spoil;
 mod strange;
 mod switches;
 mod text;
+mod why;
 
 use crate::convert;
 use crate::dice::Dice;
@@ -25,6 +28,7 @@ use limits::paper_case;
 use open::open_case;
 use ordinary::ordinary;
 use strange::{full, giant, raw_text};
+use why::why_case;
 
 /// One test: the break mode, the file, and the length of the output buffer.
 #[derive(PartialEq, Eq, Debug, Clone)]
@@ -44,6 +48,7 @@ pub fn sample(seed: u64) -> Sample {
         78..=137 => open_case(&mut dice),
         138..=161 => box_case(&mut dice),
         162..=209 => raw_text(&mut dice),
+        528..=599 => why_case(&mut dice),
         _ => ordinary(&mut dice),
     };
     let file = plan.file(&mut dice);
