@@ -1,9 +1,10 @@
 // Why a file is refused: the rule and the block that the converter's own walk tells, the offset in the file, and the byte there.
 
 ghost use mathlib.Core.Path.{_≡_};
-ghost use Prim.Native.Nat.{_-_};
+ghost use Prim.Native.Nat.{_-_, _<_, _^_};
 ghost use lib.ListN.{length};
 ghost use Rattle.meaning.specs.Gsi.{blockCount};
+ghost use Rattle.meaning.specs.Blocks.{blockStart};
 ghost use Rattle.meaning.specs.Reasons.{textAt, textOffset, offsetIn, byteAt, reason};
 ghost use Rattle.reasons.specs.Explained.{Told};
 ghost use Rattle.explain.specs.Places.{InReach};
@@ -26,8 +27,15 @@ fn text_size(file: &[u8], k: usize) -> usize
     block::text_of(bytes).len()
 }
 
+fn block_start(k: u64) -> u64
+    requires { ⌜ blockStart k < 2 ^ 64 ⌝ }
+    ensures { λ r. ⌜ r ≡ blockStart k ⌝ }
+{
+    GSI_SIZE as u64 + BLOCK_SIZE as u64 * k
+}
+
 // Where byte i of the text of a set that begins at a block stands in the file.
-fn text_offset(file: &[u8], place: usize, i: usize) -> usize
+fn text_offset(file: &[u8], place: usize, i: usize) -> u64
     ensures { λ r. ⌜ r ≡ textOffset (now (file .entry)) (blockCount (now (file .entry)) - place) place i ⌝ }
 {
     let n = gsi::block_count(file);
@@ -36,12 +44,12 @@ fn text_offset(file: &[u8], place: usize, i: usize) -> usize
     while k < n {
         let size = text_size(file, k);
         if left < size {
-            return GSI_SIZE + BLOCK_SIZE * k + HEADER_SIZE + left;
+            return block_start(k as u64) + HEADER_SIZE as u64 + left as u64;
         }
         left -= size;
         k += 1;
     }
-    file.len()
+    file.len() as u64
 }
 
 // Where in the file a refusal of the file stands.
@@ -56,9 +64,9 @@ fn offset_in(file: &[u8], r: Refusal) -> u64
         return r.offset;
     }
     if r.number < 13 {
-        return GSI_SIZE as u64 + BLOCK_SIZE as u64 * r.place + r.offset;
+        return block_start(r.place) + r.offset;
     }
-    text_offset(file, r.place as usize, r.offset as usize) as u64
+    text_offset(file, r.place as usize, r.offset as usize)
 }
 
 fn byte_at(file: &[u8], offset: u64) -> FileByte

@@ -16,18 +16,24 @@ abbrev μ-loop : tie.MeasureT-loop
 μ-loop file place i n k₀ left₀ k left = n - k
 
 -- the result is a place in the file
-add-result-3 : tie.Need-add-result-3 Inv-loop μ-loop
-add-result-3 c =
+block-start-requires : tie.Need-block-start-requires Inv-loop μ-loop
+block-start-requires c κs =
     let z = c .before in
     let l = z .before .before in
     omega (arith, text-within (l .before .before .before .args .file .now) (l .loop .k) (l .loop .left) (l .before .block-count .ensures) (z .before .loop-test .taken) (rw (z .text-size .ensures) at (c .if1 .taken)))
 
+add-result-2 : tie.Need-add-result-2 Inv-loop μ-loop
+add-result-2 c =
+    let z = c .before .before in
+    let l = z .before .before in
+    omega (arith, c .block-start .ensures, text-within (l .before .before .before .args .file .now) (l .loop .k) (l .loop .left) (l .before .block-count .ensures) (z .before .loop-test .taken) (rw (z .text-size .ensures) at (c .before .if1 .taken)))
+
 returns : tie.Need-returns Inv-loop μ-loop
 returns c =
-    let z = c .before in
+    let z = c .before .before in
     let l = z .before .before in
-    let f = found _ _ _ _ (z .before .loop-test .taken) (rw (z .text-size .ensures) at (c .if1 .taken)) in
-    rw (sym (l .before .block-count .ensures)) (sym f ∙ l .loop .inv)
+    let f = found _ _ _ _ (z .before .loop-test .taken) (rw (z .text-size .ensures) at (c .before .if1 .taken)) in
+    rw (sym (l .before .block-count .ensures), c .block-start .ensures) (sym f ∙ l .loop .inv)
 
 loop-again : tie.Need-loop-again Inv-loop μ-loop
 loop-again c =
@@ -42,5 +48,5 @@ returns-2 c =
 
 pub text-offset-spec : {M : Type 1} → statement M
 text-offset-spec =
-    tie.close (tie.spec Inv-loop μ-loop (λ c κs. search needs) (λ c. search needs) (λ c κs. search needs) (λ c. omega (arith, add-result-3 c)) (λ c. omega (arith, add-result-3 c))
-    (λ c. omega (arith, add-result-3 c)) add-result-3 returns (λ c. search needs) (λ c. omega arith) loop-again returns-2)
+    tie.close (tie.spec Inv-loop μ-loop (λ c κs. search needs) (λ c. search needs) (λ c κs. search needs) block-start-requires (λ c. omega (arith, add-result-2 c))
+    add-result-2 returns (λ c. search needs) (λ c. omega arith) loop-again returns-2)
