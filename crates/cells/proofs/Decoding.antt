@@ -8,18 +8,19 @@ use mathlib.Core.Bool.{Bool, true, false}
 use mathlib.Core.List.{List, [], _∷_, _++_, map, map-append}
 use lib.ListN.{length, take, drop, replicate, length-map, length-append, length-take, length-drop}
 use Rattle.meaning.specs.declared.Token.{Token}
-use Rattle.meaning.specs.declared.Token.the-variants.{Character}
 use Rattle.meaning.specs.declared.Look.{Look}
 use Rattle.meaning.specs.Codes.{isRowEnd, takesCell, isControlOf, isBoxCode}
+use Rattle.meaning.specs.Glyphs.{single, space}
 use Rattle.meaning.specs.Rows.{breaksPaired, firstRow}
 use Rattle.meaning.specs.Looks.{lookCount, bit, pack, unpack}
-use Rattle.meaning.specs.Cells.{Cell, Pen, blank, cellCharacter, lookHere, lookNext, hiddenNext, hiddenIf, cellOf, penAfter, cellsOf, cellsFrom, penEnd, cellRows}
+use Rattle.meaning.specs.Cells.{Cell, Pen, cellCharacter, lookHere, lookNext, hiddenNext, hiddenIf, cellOf, penAfter, cellsOf, cellsFrom, penEnd, cellRows}
 use Rattle.meaning.proofs.Logic.{by-test}
 use Rattle.meaning.proofs.ListLaws.{All}
 use Rattle.meaning.proofs.ListLaws.All.{cons}
 use Rattle.meaning.proofs.LookLaws.{start-bits, pack-small, unpack-pack, pack-unpack, unpack-bits}
 use Rattle.laws.proofs.CellFacts.{Sound, next-bits, rows-sound}
 use Rattle.charset.specs.declared.Reading.{Reading}
+use Rattle.charset.specs.Plain.{plainToken}
 use Rattle.charset.specs.Reading.{afterRowAt}
 use Rattle.charset.proofs.Positions.{row-over}
 use Rattle.charset.proofs.Laws.{ReadOn, tokens-end, RunOn}
@@ -29,7 +30,7 @@ use Rattle.rows.specs.Scanned.{isEnded}
 use Rattle.rows.proofs.Laws.{first-end, ended-end, first-more, ended-more, first-run, ended-run, first-none, ended-none, rows-first}
 use Rattle.rows.proofs.RowEnds.{row-end, row-more}
 use Rattle.cells.specs.Fronts.{boxedStart, frontAfter, frontFrom}
-use Rattle.cells.specs.Arrays.{character, packedLook, hiddenLook, places, kept, penOf}
+use Rattle.cells.specs.Arrays.{packed, character, packedLook, hiddenLook, places, kept, penOf}
 use Rattle.cells.proofs.Keeping.{kept-nil, kept-then}
 use Rattle.cells.specs.Decoded.{tokensFrom, rowTokens, rowAt, runCell, runCells, Drawn}
 
@@ -52,9 +53,9 @@ cells-size t pen = by-test (takesCell t) (λ e. rw e) (λ e. rw e)
 
 -- the cells of a run are its codes, in the pen's look
 pub run-characters : (pen : ℕ) (cs : List ℕ) → map character (runCells (penOf pen false) cs) ≡ cs
-unfolding runCells runCell cellOf hiddenIf character cellCharacter
+unfolding runCells runCell cellOf hiddenIf character cellCharacter packed single
 run-characters pen [] = refl
-run-characters pen (c ∷ cs) = ap (λ (l : List ℕ). c ∷ l) (run-characters pen cs)
+run-characters pen (c ∷ cs) = λ i. add-zero c i ∷ run-characters pen cs i
 
 pub run-looks : (pen : ℕ) → pen < lookCount → (cs : List ℕ) → map packedLook (runCells (penOf pen false) cs) ≡ replicate (length cs) pen
 unfolding runCells runCell cellOf hiddenIf packedLook lookHere
@@ -63,10 +64,10 @@ run-looks pen h (c ∷ cs) = λ i. pack-unpack pen h i ∷ run-looks pen h cs i
 
 -- or blanks on black
 module _ (pen : ℕ) where
-  pub hidden-characters : (cs : List ℕ) → map character (runCells (penOf pen true) cs) ≡ replicate (length cs) blank
+  pub hidden-characters : (cs : List ℕ) → map character (runCells (penOf pen true) cs) ≡ replicate (length cs) (packed space)
   unfolding runCells runCell cellOf hiddenIf character
   hidden-characters [] = refl
-  hidden-characters (c ∷ cs) = ap (λ (l : List ℕ). blank ∷ l) (hidden-characters cs)
+  hidden-characters (c ∷ cs) = ap (λ (l : List ℕ). packed space ∷ l) (hidden-characters cs)
 
   pub hidden-looks : (cs : List ℕ) → map packedLook (runCells (penOf pen true) cs) ≡ replicate (length cs) (hiddenLook pen)
   unfolding runCells runCell cellOf hiddenIf packedLook lookHere
@@ -90,18 +91,18 @@ module _ (before : ℕ) where
   start-pen = λ i. record { look = unpack-pack _ (start-bits (unpack before)) i; hidden = false }
 
 -- characters leave the pen as it is
-run-from : (pen : Pen) (cs : List ℕ) (ts : List Token) → cellsFrom pen (map Character cs ++ ts) ≡ runCells pen cs ++ cellsFrom pen ts
+run-from : (pen : Pen) (cs : List ℕ) (ts : List Token) → cellsFrom pen (map plainToken cs ++ ts) ≡ runCells pen cs ++ cellsFrom pen ts
 unfolding runCells runCell cellsFrom cellsOf takesCell penAfter lookNext hiddenNext isControlOf
 run-from pen [] ts = refl
-run-from pen (c ∷ cs) ts = ap (λ (l : List Cell). cellOf (Character c) pen ∷ l) (run-from pen cs ts)
+run-from pen (c ∷ cs) ts = ap (λ (l : List Cell). cellOf (plainToken c) pen ∷ l) (run-from pen cs ts)
 
-run-end : (pen : Pen) (cs : List ℕ) (ts : List Token) → penEnd pen (map Character cs ++ ts) ≡ penEnd pen ts
+run-end : (pen : Pen) (cs : List ℕ) (ts : List Token) → penEnd pen (map plainToken cs ++ ts) ≡ penEnd pen ts
 unfolding penEnd penAfter lookNext hiddenNext isControlOf
 run-end pen [] ts = refl
 run-end pen (c ∷ cs) ts = run-end pen cs ts
 
 -- and no box code is among them
-run-front : (front n : ℕ) (cs : List ℕ) (ts : List Token) → frontFrom front n (map Character cs ++ ts) ≡ frontFrom front (n + length cs) ts
+run-front : (front n : ℕ) (cs : List ℕ) (ts : List Token) → frontFrom front n (map plainToken cs ++ ts) ≡ frontFrom front (n + length cs) ts
 unfolding frontFrom frontAfter isBoxCode isControlOf takesCell
 run-front front n [] ts = rw add-zero
 run-front front n (c ∷ cs) ts =

@@ -4,20 +4,21 @@ use Prim.Native.Nat.{ℕ, _-_, _≤_}
 use mathlib.Core.Path.{_≡_, sym, ap, _∙_}
 use mathlib.Core.List.{List, _++_}
 use lib.ListN.{length, drop, replicate}
+use Rattle.meaning.specs.Glyphs.{space}
 use Rattle.meaning.specs.Looks.{pack, unpack}
-use Rattle.meaning.specs.Cells.{blank, hiddenCell, cellsFrom}
+use Rattle.meaning.specs.Cells.{hiddenCell, cellsFrom}
 use Rattle.laws.proofs.Bounds.{cells-length}
 use Rattle.output.proofs.Laws.{length-stored}
 use Rattle.cells.specs.declared.RowRead.{RowRead}
 use Rattle.cells.specs.Fronts.{boxedStart, frontFrom}
-use Rattle.cells.specs.Arrays.{character, packedLook, hiddenLook, places, CellsStored}
+use Rattle.cells.specs.Arrays.{packed, character, packedLook, hiddenLook, places, CellsStored}
 use Rattle.cells.specs.Decoded.{rowTokens, rowAt, Drawn, Decoded}
 use Rattle.cells.proofs.Overlay.{copies-over}
 use Rattle.cells.proofs.Fronts.{hindsight}
 
 pub decoded : {text : List ℕ} {start : ℕ} (before : ℕ) {front : ℕ} {characters looks c₁ l₁ c₂ l₂ : List ℕ} {r : RowRead}
     → Drawn text start (boxedStart (unpack before)) characters looks c₁ l₁ r → front ≡ frontFrom 0 0 (rowTokens text start)
-    → CellsStored c₁ l₁ 0 (replicate front blank) (replicate front (hiddenLook before)) c₂ l₂ → Decoded text start before characters looks c₂ l₂ r
+    → CellsStored c₁ l₁ 0 (replicate front (packed space)) (replicate front (hiddenLook before)) c₂ l₂ → Decoded text start before characters looks c₂ l₂ r
 unfolding character packedLook
 decoded {text} {start} before {front} {characters} {looks} d f s =
     let row = rowTokens text start in

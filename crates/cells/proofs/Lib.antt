@@ -3,5 +3,6 @@ pub mod Overlay
 pub mod Fronts
 pub mod Decoding
 pub mod Hiding
+pub mod Packing
 pub mod ReadBack
 pub mod Laws

@@ -12,9 +12,11 @@ use Rattle.meaning.specs.Cells.{Cell}
 use Rattle.meaning.proofs.ListLaws.{All}
 use Rattle.meaning.proofs.ListLaws.All.{cons}
 use Rattle.meaning.proofs.LookLaws.{unpack-pack}
+use Rattle.laws.proofs.Spelling.{point-small}
 use Rattle.laws.proofs.CellFacts.{Sound}
 use Rattle.output.specs.Output.{stored}
-use Rattle.cells.specs.Arrays.{character, packedLook, packedCell, cellAt, cellsAt}
+use Rattle.cells.specs.Arrays.{unpacked, character, packedLook, packedCell, cellAt, cellsAt}
+use Rattle.cells.proofs.Packing.{unpacked-packed}
 
 -- storing leaves what stands before
 stored-before : (buf : List ℕ) (at : ℕ) (xs : List ℕ) (k : ℕ) → k < at → getD (stored buf at xs) k 0 ≡ getD buf k 0
@@ -32,7 +34,8 @@ cell-back : (characters looks : List ℕ) (i : ℕ) (c : Cell) (xs ys : List ℕ
 unfolding packedCell character packedLook
 cell-back characters looks i c xs ys s h k =
     let e = ap unpack (stored-first looks i (packedLook c) ys k) ∙ unpack-pack (c .look) (s .look) in
-    λ j. record { character = stored-first characters i (character c) xs h j; look = e j }
+    let g = ap unpacked (stored-first characters i (character c) xs h) ∙ unpacked-packed (c .character) (point-small (c .character) (s .character)) in
+    λ j. record { character = g j; look = e j }
 
 -- n of the m that were stored
 pub read-back : (n m : ℕ) (cs : List Cell) (characters looks : List ℕ) (i : ℕ) → All Sound cs → n ≤ length cs → n ≤ m

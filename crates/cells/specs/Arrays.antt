@@ -1,24 +1,37 @@
--- Cells kept in two arrays, their characters and their packed looks; a pen whose look is kept packed.
+-- Cells kept in two arrays, their packed characters and their packed looks; a pen whose look is kept packed.
 -- Assumes nothing.
-use Prim.Native.Nat.{ℕ, zero, suc, _-_, min}
+use Prim.Native.Nat.{ℕ, zero, suc, _+_, _-_, _*_, _/_, _%_, min}
 use mathlib.Core.Path.{_≡_}
 use mathlib.Core.Bool.{Bool}
 use mathlib.Core.List.{List, [], _∷_}
 use lib.ListN.{length, getD, take}
+use Rattle.meaning.specs.declared.Glyph.{Glyph}
+use Rattle.meaning.specs.Glyphs.{spelling}
 use Rattle.meaning.specs.Looks.{pack, unpack}
 use Rattle.output.specs.Output.{stored}
 use Rattle.meaning.specs.Cells.{Cell, Pen, hiddenCell}
 
+-- a character as one number: sixteen bits of code point, and its mark above them
+unfoldable pub packed : Glyph → ℕ
+packed g = g .point + 65536 * g .mark
+
+unfoldable pub unpacked : ℕ → Glyph
+unpacked n = record { point = n % 65536; mark = n / 65536 }
+
+-- the code points of a packed character
+unfoldable pub packedPoints : ℕ → List ℕ
+packedPoints n = spelling (unpacked n)
+
 -- what is kept of a cell
 unfoldable pub character : Cell → ℕ
-character c = c .character
+character c = packed (c .character)
 
 unfoldable pub packedLook : Cell → ℕ
 packedLook c = pack (c .look)
 
 -- a cell from what is kept of it
 unfoldable pub packedCell : ℕ → ℕ → Cell
-packedCell p n = record { character = p; look = unpack n }
+packedCell p n = record { character = unpacked p; look = unpack n }
 
 -- the cells that both arrays have a place for; and of values from place k on, those that have one of n places
 abbrev pub places : List ℕ → List ℕ → ℕ

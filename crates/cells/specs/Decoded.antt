@@ -6,10 +6,10 @@ use mathlib.Core.List.{List, map}
 use lib.ListN.{length, drop}
 use Rattle.meaning.specs.declared.Token.{Token}
 use Rattle.meaning.specs.Codes.{tokens}
-use Rattle.meaning.specs.declared.Token.the-variants.{Character}
 use Rattle.meaning.specs.declared.Look.{Look}
 use Rattle.meaning.specs.Looks.{pack, unpack}
 use Rattle.meaning.specs.Cells.{Cell, Pen, cellOf, cellsFrom, penEnd, rowStart, cellsOfRow}
+use Rattle.charset.specs.Plain.{plainToken}
 use Rattle.charset.specs.Reading.{afterRowAt}
 use Rattle.meaning.specs.Rows.{firstRow}
 use Rattle.rows.specs.Scanned.{isEnded}
@@ -28,7 +28,7 @@ rowAt text start before = cellsOfRow before (rowTokens text start)
 
 -- the cells of a run of plain codes
 unfoldable pub runCell : Pen → ℕ → Cell
-runCell pen c = cellOf (Character c) pen
+runCell pen c = cellOf (plainToken c) pen
 
 unfoldable pub runCells : Pen → List ℕ → List Cell
 runCells pen cs = map (runCell pen) cs

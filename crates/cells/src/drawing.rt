@@ -5,9 +5,10 @@ ghost use Prim.Native.Nat.{_<_};
 ghost use Rattle.meaning.specs.Looks.{lookCount, withBackground, withColour, startLook, pack, unpack};
 ghost use Rattle.meaning.specs.Codes.{takesCell};
 ghost use Rattle.meaning.specs.Cells.{cellCharacter, controlHere, controlNext, switched, lookHere, lookNext, hiddenNext};
-ghost use Rattle.cells.specs.Arrays.{hiddenLook};
+ghost use Rattle.cells.specs.Arrays.{packed, hiddenLook};
 ghost use Rattle.cells.specs.Fronts.{frontAfter};
 use crate::BLANK;
+use crate::packed;
 use meaning::Look;
 use meaning::Token;
 
@@ -77,11 +78,12 @@ pub(crate) fn takes_cell(token: Token) -> bool
     }
 }
 
-pub(crate) fn cell_character(token: Token) -> u16
-    ensures { λ r. ⌜ r ≡ cellCharacter token ⌝ }
+// The character of a token's cell, packed.
+pub(crate) fn cell_character(token: Token) -> u32
+    ensures { λ r. ⌜ r ≡ packed (cellCharacter token) ⌝ }
 {
     match token {
-        Token::Character(p) => p,
+        Token::Character(glyph) => packed(glyph),
         Token::Control(_) => BLANK,
         Token::Switch(_) => BLANK,
         Token::RowEnd => BLANK,

@@ -7,17 +7,19 @@ ghost use Prim.Native.Nat.{_+_, _-_, _<_, _≤_, _^_, min};
 ghost use lib.ListN.{length, take, drop, replicate};
 ghost use Rattle.meaning.specs.Looks.{lookCount, bit, unpack};
 ghost use Rattle.meaning.specs.Codes.{takesCell};
-ghost use Rattle.meaning.specs.Cells.{blank, cellsOf};
+ghost use Rattle.meaning.specs.Glyphs.{space};
+ghost use Rattle.meaning.specs.Cells.{cellsOf};
 ghost use Rattle.output.specs.Output.{stored};
-ghost use Rattle.cells.specs.Arrays.{character, packedLook, hiddenLook, penOf, CellsStored};
+ghost use Rattle.cells.specs.Arrays.{packed, unpacked, character, packedLook, hiddenLook, penOf, CellsStored};
 ghost use Rattle.cells.specs.Fronts.{boxedStart, frontFrom};
 ghost use Rattle.cells.specs.Decoded.{rowTokens, runCells, Drawn, Decoded};
+use meaning::Glyph;
 use meaning::Token;
 
 mod drawing;
 
-// The character of a blank cell: 20h, every control and every hidden cell.
-pub const BLANK: u16 = 32;
+// The character of a blank cell, packed: 20h, every control and every hidden cell.
+pub const BLANK: u32 = 32;
 
 // A row that was read: how many cells it has, whether a row end follows it, the position after that, and the look after the
 // row, packed.
@@ -28,6 +30,25 @@ pub struct RowRead {
     pub look: u16,
 }
 
+// A packed character has its code point in the lower half, its mark in the upper.
+const HALF: u32 = 65536;
+
+fn packed(glyph: Glyph) -> u32
+    ensures { λ r. ⌜ r ≡ packed glyph ⌝ }
+{
+    let mark = glyph.mark as u32;
+    glyph.point as u32 + HALF * mark
+}
+
+pub fn unpacked(character: u32) -> Glyph
+    ensures { λ r. ⌜ r ≡ unpacked character ⌝ }
+{
+    Glyph {
+        point: (character % HALF) as u16,
+        mark: (character / HALF) as u16,
+    }
+}
+
 pub fn least(a: usize, b: usize) -> usize
     ensures { λ r. ⌜ r ≡ min a b ⌝ }
 {
@@ -35,7 +56,7 @@ pub fn least(a: usize, b: usize) -> usize
 }
 
 // A cell has a place if both arrays have one for it.
-fn store(characters: &mut [u16], looks: &mut [u16], k: usize, character: u16, look: u16)
+fn store(characters: &mut [u32], looks: &mut [u16], k: usize, character: u32, look: u16)
     ensures { λ _. ⌜ CellsStored (now (characters .entry)) (now (looks .entry)) k (character ∷ []) (look ∷ []) (now (characters .exit)) (now (looks .exit)) ⌝ }
 {
     if k < least(characters.len(), looks.len()) {
@@ -45,9 +66,9 @@ fn store(characters: &mut [u16], looks: &mut [u16], k: usize, character: u16, lo
 }
 
 // Blanks of one look.
-fn put_blanks(characters: &mut [u16], looks: &mut [u16], k: usize, n: usize, look: u16)
+fn put_blanks(characters: &mut [u32], looks: &mut [u16], k: usize, n: usize, look: u16)
     requires { ⌜ (n ≤ length (now characters) - k) × (n ≤ length (now looks) - k) ⌝ }
-    ensures { λ _. ⌜ (now (characters .exit) ≡ stored (now (characters .entry)) k (replicate n blank)) × (now (looks .exit) ≡ stored (now (looks .entry)) k (replicate n look)) ⌝ }
+    ensures { λ _. ⌜ (now (characters .exit) ≡ stored (now (characters .entry)) k (replicate n (packed space))) × (now (looks .exit) ≡ stored (now (looks .entry)) k (replicate n look)) ⌝ }
 {
     let mut j = 0;
     while j < n {
@@ -58,8 +79,8 @@ fn put_blanks(characters: &mut [u16], looks: &mut [u16], k: usize, n: usize, loo
 }
 
 // Hidden cells, which are blanks on black.
-fn put_hidden(characters: &mut [u16], looks: &mut [u16], k: usize, n: usize, pen: u16)
-    ensures { λ _. ⌜ CellsStored (now (characters .entry)) (now (looks .entry)) k (replicate n blank) (replicate n (hiddenLook pen)) (now (characters .exit)) (now (looks .exit)) ⌝ }
+fn put_hidden(characters: &mut [u32], looks: &mut [u16], k: usize, n: usize, pen: u16)
+    ensures { λ _. ⌜ CellsStored (now (characters .entry)) (now (looks .entry)) k (replicate n (packed space)) (replicate n (hiddenLook pen)) (now (characters .exit)) (now (looks .exit)) ⌝ }
 {
     let look = drawing::hidden_look(pen);
     let blanks = output::fitting(least(characters.len(), looks.len()), k, n);
@@ -68,7 +89,7 @@ fn put_hidden(characters: &mut [u16], looks: &mut [u16], k: usize, n: usize, pen
 
 // The cell of a token, where it takes one, and how many cells there are then.
 fn put_cell(
-    characters: &mut [u16],
+    characters: &mut [u32],
     looks: &mut [u16],
     k: usize,
     token: Token,
@@ -93,13 +114,13 @@ fn put_cell(
 }
 
 // Each code is its own character, and all have the pen's look.
-fn put_codes(characters: &mut [u16], looks: &mut [u16], k: usize, codes: &[u8], pen: u16)
+fn put_codes(characters: &mut [u32], looks: &mut [u16], k: usize, codes: &[u8], pen: u16)
     requires { ⌜ (length (now codes) ≤ length (now characters) - k) × (length (now codes) ≤ length (now looks) - k) ⌝ }
     ensures { λ _. ⌜ (now (characters .exit) ≡ stored (now (characters .entry)) k (now (codes .entry))) × (now (looks .exit) ≡ stored (now (looks .entry)) k (replicate (length (now (codes .entry))) pen)) ⌝ }
 {
     let mut j = 0;
     while j < codes.len() {
-        characters[k + j] = codes[j] as u16;
+        characters[k + j] = codes[j] as u32;
         looks[k + j] = pen;
         j += 1;
     }
@@ -108,7 +129,7 @@ fn put_codes(characters: &mut [u16], looks: &mut [u16], k: usize, codes: &[u8], 
 // The cells of the plain codes from one position up to another, which leave the pen as it is, and how many cells there are
 // then. The places are counted before they are stored.
 fn put_run(
-    characters: &mut [u16],
+    characters: &mut [u32],
     looks: &mut [u16],
     k: usize,
     text: &[u8],
@@ -155,7 +176,7 @@ fn draw_row(
     text: &[u8],
     start: usize,
     before: u16,
-    characters: &mut [u16],
+    characters: &mut [u32],
     looks: &mut [u16],
 ) -> RowDrawn
     ensures row { λ r. ⌜ Drawn (now (text .entry)) start (boxedStart (unpack before)) (now (characters .entry)) (now (looks .entry)) (now (characters .exit)) (now (looks .exit)) (r .row) ⌝ }
@@ -190,7 +211,7 @@ pub fn decode_row(
     text: &[u8],
     start: usize,
     before: u16,
-    characters: &mut [u16],
+    characters: &mut [u32],
     looks: &mut [u16],
 ) -> RowRead
     ensures { λ r. ⌜ Decoded (now (text .entry)) start before (now (characters .entry)) (now (looks .entry)) (now (characters .exit)) (now (looks .exit)) r ⌝ }

@@ -3,16 +3,18 @@
 use Prim.Native.Nat.{ℕ, zero, suc, _+_, _*_, _-_, _≤_, _<_}
 use native.Mathlib.Omega.{arith}
 use mathlib.Core.Path.{_≡_, refl, sym, _∙_}
-use mathlib.Core.Bool.{true, false, cond, not, _&&_}
+use mathlib.Core.Bool.{true, false, cond, not, _&&_, and-false}
 use lib.Dec.{ltb, leb, eqb}
-use lib.ListN.{getD, drop}
+use lib.ListN.{length, getD, drop, List·getD-eq-default}
 use borrow.Author.Tests.{lt-ltb, le-ltb, le-leb, lt-leb, ne-eqb, eqb-true, eqb-false, ltb-false, not-true}
+use Rattle.meaning.specs.declared.Glyph.{Glyph}
 use Rattle.meaning.specs.declared.Token.the-variants.{Character, Control, Switch, Unlisted}
 use Rattle.meaning.specs.Tables.{latinTable, composedTable}
-use Rattle.meaning.specs.Characters.{latin, composed}
+use Rattle.meaning.specs.Characters.{latin, accents, accent, composed}
+use Rattle.meaning.specs.Glyphs.{single}
 use Rattle.meaning.specs.Codes.{isControl, isSwitch, characterOf, codeToken}
 use Rattle.meaning.proofs.Logic.{by-test, by-le, false-not-true, and-parts, between}
-use Rattle.charset.specs.Plain.{isPlain}
+use Rattle.charset.specs.Plain.{isPlain, plainToken}
 use Rattle.charset.proofs.Table.{every, at}
 
 -- the Latin table, by ranges of codes
@@ -29,10 +31,9 @@ pub by-range : (c : ℕ) → c < 256 → latin c ≡ byRange c
 unfolding latin latinTable
 by-range c h = eqb-true (latin c) (byRange c) (at (λ k p. eqb p (byRange k)) latinTable ranged c h)
 
-pub character-of : (p : ℕ) → (p ≡ 0 → ⊥) → characterOf p ≡ Character p
+pub character-of : (g : Glyph) → (g .point ≡ 0 → ⊥) → characterOf g ≡ Character g
 unfolding characterOf
-character-of zero ne = absurd (ne refl)
-character-of (suc p) ne = refl
+character-of g ne = rw (ne-eqb (g .point) 0 ne)
 
 -- what a plain code is
 pub plain-range : (c : ℕ) → isPlain c ≡ true → (32 ≤ c) × (c ≤ 126) × (c ≡ 36 → ⊥)
@@ -67,20 +68,20 @@ unfolding isSwitch
 switch-below c h = rw (le-leb 128 c (omega arith), lt-leb c 131 h)
 
 -- a code that is no row end, no control and no switch
-as-character : (c : ℕ) → (c ≡ 138 → ⊥) → isControl c ≡ false → isSwitch c ≡ false → codeToken c ≡ characterOf (latin c)
+as-character : (c : ℕ) → (c ≡ 138 → ⊥) → isControl c ≡ false → isSwitch c ≡ false → codeToken c ≡ characterOf (single (latin c))
 unfolding codeToken
 as-character c ne n s = rw (ne-eqb c 138 ne, n, s, codeToken)
 
 -- from A0h on the Latin table tells
-pub upper-token : (c : ℕ) → 160 ≤ c → codeToken c ≡ characterOf (latin c)
+pub upper-token : (c : ℕ) → 160 ≤ c → codeToken c ≡ characterOf (single (latin c))
 upper-token c h = as-character c (λ e. omega arith) (control-below c (omega arith)) (switch-below c (omega arith))
 
 module _ (c : ℕ) where
-  pub plain-token : isPlain c ≡ true → codeToken c ≡ Character c
+  pub plain-token : isPlain c ≡ true → codeToken c ≡ plainToken c
   plain-token e =
       let r = plain-range c e in
       let p : latin c ≡ c = rw (by-range c (omega (arith, r .1)), le-ltb c 32 (r .0), ne-eqb c 36 (r .2), lt-ltb c 127 (omega (arith, r .1))) in
-      as-character c (λ d. omega (arith, r .1)) (control-below c (r .0)) (switch-above c (omega (arith, r .1))) ∙ (rw p (character-of c (λ z. omega (arith, r .0))))
+      as-character c (λ d. omega (arith, r .1)) (control-below c (r .0)) (switch-above c (omega (arith, r .1))) ∙ (rw p (unfold single in character-of (single c) (λ z. omega (arith, r .0))))
 
   pub control-token : isControl c ≡ true → codeToken c ≡ Control c
   unfolding codeToken isControl
@@ -96,7 +97,7 @@ module _ (c : ℕ) where
 
   -- a low code that is none of these
   pub no-token : c < 160 → isPlain c ≡ false → isControl c ≡ false → isSwitch c ≡ false → (c ≡ 36 → ⊥) → (c ≡ 138 → ⊥) → codeToken c ≡ Unlisted
-  unfolding characterOf
+  unfolding characterOf single
   no-token h p n s d r =
       let high : 32 ≤ c → 127 ≤ c = λ l. by-le c 126 (λ u. absurd (false-not-true (sym p ∙ in-range-plain c l u d))) (λ u. u) in
       let none : latin c ≡ 0 = by-range c (omega arith) ∙ by-test (ltb c 32) (λ t. rw t) (λ t. rw (t, ne-eqb c 36 d, le-ltb c 127 (high (ltb-false c 32 t)), lt-ltb c 160 h)) in
@@ -112,3 +113,40 @@ unfolding composed
 composed-at zero l h k = absurd (omega arith)
 composed-at (suc a) zero h k = absurd (omega arith)
 composed-at (suc a) (suc l) h k = let e : 52 * (suc a - 1) + (suc l - 1) ≡ 52 * a + l = omega arith in rw e
+
+-- the numbers of the accents, by ranges of codes
+abbrev accentByRange : ℕ → ℕ
+accentByRange c =
+    cond (leb 193 c && leb c 200) (c - 192) (cond (leb 202 c && leb c 203) (c - 193) (cond (leb 205 c && leb c 207) (c - 194) 0))
+
+accents-ranged : every (λ k a. eqb a (accentByRange (192 + k))) 0 accents ≡ true
+unfolding accents
+accents-ranged = refl
+
+-- of no code from a range on, or before it
+above : (c : ℕ) → 208 ≤ c → accentByRange c ≡ 0
+above c h = rw (lt-leb c 200 (omega arith), lt-leb c 203 (omega arith), lt-leb c 207 (omega arith), and-false (leb 193 c), and-false (leb 202 c), and-false (leb 205 c))
+
+below : (c : ℕ) → c < 192 → accentByRange c ≡ 0
+below c h = rw (lt-leb 193 c (omega arith), lt-leb 202 c (omega arith), lt-leb 205 c (omega arith))
+
+accent-from : (c : ℕ) → 192 ≤ c → accent c ≡ getD accents (c - 192) 0
+unfolding accent
+accent-from c h = rw (le-leb 192 c h, accent)
+
+accent-before : (c : ℕ) → c < 192 → accent c ≡ 0
+unfolding accent
+accent-before c h = rw (lt-leb 192 c h, accent)
+
+pub accent-ranged : (c : ℕ) → accent c ≡ accentByRange c
+unfolding accents
+accent-ranged c =
+    by-le 192 c
+    (λ h.
+    let e : 192 + (c - 192) ≡ c = omega arith in
+    by-le 208 c
+    (λ k.
+    let past : length accents ≤ c - 192 = omega arith in
+    accent-from c h ∙ List·getD-eq-default accents 0 past ∙ sym (above c k))
+    (λ k. accent-from c h ∙ rw e at (eqb-true (getD accents (c - 192) 0) (accentByRange (192 + (c - 192))) (at (λ j a. eqb a (accentByRange (192 + j))) accents accents-ranged (c - 192) (omega arith)))))
+    (λ h. accent-before c h ∙ sym (below c h))

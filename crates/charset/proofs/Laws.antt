@@ -11,7 +11,6 @@ use lib.ListN.{length, getD, take, drop, length-drop, drop-of-length-le}
 use lib.Seq.{drop-cons, drop-drop}
 use borrow.Author.Tests.{lt-ltb, lt-leb, ltb-false}
 use Rattle.meaning.specs.declared.Token.{Token}
-use Rattle.meaning.specs.declared.Token.the-variants.{Character}
 use Rattle.meaning.specs.Characters.{accent}
 use Rattle.meaning.specs.Codes.{isAccent, codeToken, pairToken, tokens, isRowEnd}
 use Rattle.meaning.specs.Lists.{takeWhile}
@@ -22,7 +21,7 @@ use Rattle.meaning.proofs.Tokens.{tokens-pair as first-pair, tokens-code}
 use Rattle.meaning.proofs.TextPlaces.{size-pair, size-code, size-last}
 use Rattle.charset.specs.declared.Reading.{Reading}
 use Rattle.charset.specs.Reading.{isPairAt, readingAt, tokenAt, nextAt, afterRowAt}
-use Rattle.charset.specs.Plain.{isPlain, plainEnd}
+use Rattle.charset.specs.Plain.{isPlain, plainToken, plainEnd}
 use Rattle.charset.proofs.Codes.{plain-range, plain-token}
 use Rattle.charset.proofs.Positions.{by-reading, next-on, row-step}
 
@@ -117,7 +116,7 @@ unfolding readingAt isPairAt
 low-reading s i h l = rw (lt-ltb i (length s) h, low-single (getD s i 0) l)
 
 -- the tokens of a run are the characters of its codes
-tokens-run : (s : List ℕ) → tokens s ≡ map Character (takeWhile isPlain s) ++ tokens (drop (length (takeWhile isPlain s)) s)
+tokens-run : (s : List ℕ) → tokens s ≡ map plainToken (takeWhile isPlain s) ++ tokens (drop (length (takeWhile isPlain s)) s)
 unfolding takeWhile
 tokens-run [] = refl
 tokens-run (c ∷ cs) =
@@ -125,7 +124,7 @@ tokens-run (c ∷ cs) =
     (λ p.
     let r = plain-range c p in
     rw (while-on isPlain c cs p, first-single c cs (low-single c (omega (arith, r .1))), plain-token c p)
-    (ap (λ ts. Character c ∷ ts) (tokens-run cs)))
+    (ap (λ ts. plainToken c ∷ ts) (tokens-run cs)))
     (λ p. rw (while-off isPlain c cs p))
 
 -- a run is within its row
@@ -150,7 +149,7 @@ row-passes (suc k) s i e =
 
 -- the codes of a text s from i up to e are a run: the tokens from i on are its characters, and those from e on; the row goes on
 pub record RunOn (s : List ℕ) (i e : ℕ) : Type 0 where
-  pub first : tokens (drop i s) ≡ map Character (take (e - i) (drop i s)) ++ tokens (drop e s)
+  pub first : tokens (drop i s) ≡ map plainToken (take (e - i) (drop i s)) ++ tokens (drop e s)
   pub on : i ≤ e
   pub within : e ≤ length s
   pub row : afterRowAt s i ≡ afterRowAt s e

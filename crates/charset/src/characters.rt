@@ -1,12 +1,18 @@
 // The code points of single codes and of accents with letters; 0 for none.
 ghost use mathlib.Core.Path.{_≡_};
 ghost use Prim.Native.Nat.{_≤_};
+ghost use Rattle.meaning.specs.Glyphs.{single};
 ghost use Rattle.meaning.specs.Characters.{latin, accent, letter, composed};
 use crate::composed_table;
 use crate::latin_table;
+use meaning::Glyph;
 
-// Which of the thirteen accents each code from C0h to CFh is, from 1; 0 for none.
-const ACCENTS: [u8; 16] = [0, 1, 2, 3, 4, 5, 6, 7, 8, 0, 9, 10, 0, 11, 12, 13];
+// A character of one code point.
+pub(crate) fn single(point: u16) -> Glyph
+    ensures { λ r. ⌜ r ≡ single point ⌝ }
+{
+    Glyph { point, mark: 0 }
+}
 
 // The code point of a code from A0h on; the lower codes need no table.
 pub(crate) fn upper(c: u8) -> u16
@@ -16,18 +22,21 @@ pub(crate) fn upper(c: u8) -> u16
     latin_table::UPPER[(c - 160) as usize]
 }
 
-// The number of an accent, 1 to 13; 0 for any other code.
+// The number of an accent, 1 to 13, which skips C9h and CCh; 0 for any other code. No table: it would be laid out for each
+// accent that is read.
 pub(crate) fn accent(c: u8) -> u8
     ensures { λ r. ⌜ r ≡ accent c ⌝ }
 {
-    if c < 192 {
-        return 0;
+    if (193 <= c) & (c <= 200) {
+        return c - 192;
     }
-    if c < 208 {
-        ACCENTS[(c - 192) as usize]
-    } else {
-        0
+    if (202 <= c) & (c <= 203) {
+        return c - 193;
     }
+    if (205 <= c) & (c <= 207) {
+        return c - 194;
+    }
+    0
 }
 
 // The number of a letter, 1 to 52 for A to Z and a to z; 0 for any other code.

@@ -4,6 +4,7 @@ ghost use Rattle.meaning.specs.Codes.{isAccent, isControl, isSwitch, characterO
 ghost use Prim.Native.Nat.{_<_};
 ghost use Rattle.charset.specs.Plain.{isPlain, plainEnd};
 ghost use Rattle.charset.specs.Reading.{readingAt};
+use meaning::Glyph;
 use meaning::Token;
 
 mod characters;
@@ -42,13 +43,13 @@ fn is_plain(c: u8) -> bool
     (32 <= c) & (c <= 126) & (c != 36)
 }
 
-fn character_of(point: u16) -> Token
-    ensures { λ r. ⌜ r ≡ characterOf point ⌝ }
+fn character_of(glyph: Glyph) -> Token
+    ensures { λ r. ⌜ r ≡ characterOf glyph ⌝ }
 {
-    if point == 0 {
+    if glyph.point == 0 {
         Token::Unlisted
     } else {
-        Token::Character(point)
+        Token::Character(glyph)
     }
 }
 
@@ -58,7 +59,7 @@ fn low_token(c: u8) -> Token
     ensures { λ r. ⌜ r ≡ codeToken c ⌝ }
 {
     if is_plain(c) {
-        return Token::Character(c as u16);
+        return Token::Character(characters::single(c as u16));
     }
     if is_control(c) {
         return Token::Control(c);
@@ -67,7 +68,7 @@ fn low_token(c: u8) -> Token
         return Token::Switch(c);
     }
     match c {
-        36 => Token::Character(164),
+        36 => Token::Character(characters::single(164)),
         138 => Token::RowEnd,
         _ => Token::Unlisted,
     }
@@ -79,13 +80,13 @@ fn code_token(c: u8) -> Token
     if c < 160 {
         return low_token(c);
     }
-    character_of(characters::upper(c))
+    character_of(characters::single(characters::upper(c)))
 }
 
 fn pair_token(a: u8, c: u8) -> Token
     ensures { λ r. ⌜ r ≡ pairToken a c ⌝ }
 {
-    character_of(characters::pair(a, c))
+    character_of(characters::single(characters::pair(a, c)))
 }
 
 // An accent is read with the code after it, where there is one.

@@ -17,6 +17,7 @@ use Rattle.meaning.specs.Refusals.{isGood}
 use Rattle.meaning.specs.Codes.{tokens, takesCell}
 use Rattle.meaning.specs.Rows.{isDouble, rows, linesOf, rowCount, rowLimit, isShort, rowsFit}
 use Rattle.meaning.specs.TextRules.{textRules, textRule}
+use Rattle.meaning.specs.Glyphs.{spelling}
 use Rattle.meaning.specs.Cells.{Cell, Pen, points, penAfter, cellsOf, cellsFrom, rowStart, cellsOfRow, lookAfterRow, cellRows, shown}
 use Rattle.meaning.specs.Spans.{lookOf, uniform, spansFrom, spans}
 use Rattle.meaning.specs.Gsi.{formatOf, blockCount, isDigit, valueFrom, numberIn, tnb, mnr, isTeletext, screenOf, fileRule}
@@ -113,11 +114,11 @@ escaped-bound p =
     (either-bound 5 (eqb p 60) _ _ (omega arith) (either-bound 5 (eqb p 62) _ _ (omega arith) (utf8-bound p)))
 
 -- a span
-points-bound : (c : Cell) → length (points c) ≤ 1
-unfolding points
-points-bound c = omega arith
+points-bound : (c : Cell) → length (points c) ≤ 2
+unfolding points spelling
+points-bound c = by-test (eqb (c .character .mark) 0) (λ e. rw e (omega arith)) (λ e. rw e (omega arith))
 
-span-bound : (g : List Cell) → length (writePiece (span (spanOf g))) ≤ 32 + 5 * length g
+span-bound : (g : List Cell) → length (writePiece (span (spanOf g))) ≤ 32 + 10 * length g
 unfolding writePiece writeSpan spanOf styleName joined bytes
 span-bound g =
     let ps = flatMap points g in
@@ -126,7 +127,7 @@ span-bound g =
       arith,
       digits-length 3 (pack (lookOf g)),
       join-bound escaped 5 (all-of escaped-bound ps),
-      join-bound points 1 (all-of points-bound g),
+      join-bound points 2 (all-of points-bound g),
     ))
 
 -- the bytes of pieces
@@ -145,7 +146,7 @@ cells-length p (t ∷ ts) =
     (λ e. rw (e, keep) (ap suc (cells-length (penAfter t p) ts)))
     (λ e. rw (e, keep) (cells-length (penAfter t p) ts))
 
-from-bound : (cur cs : List Cell) → size (map span (map spanOf (spansFrom cur cs))) ≤ 32 + 5 * length cur + 37 * length cs
+from-bound : (cur cs : List Cell) → size (map span (map spanOf (spansFrom cur cs))) ≤ 32 + 10 * length cur + 42 * length cs
 unfolding spansFrom flatMap
 from-bound cur [] = simp length-append (omega (arith, span-bound cur))
 from-bound cur (c ∷ cs) =
@@ -153,12 +154,12 @@ from-bound cur (c ∷ cs) =
     (λ e. rw (e, spansFrom) (omega (arith, from-bound (cur ++ (c ∷ [])) cs, length-append cur (c ∷ []))))
     (λ e. rw (e, spansFrom) (simp length-append (omega (arith, span-bound cur, from-bound (c ∷ []) cs))))
 
-spans-size : (cs : List Cell) → size (map span (map spanOf (spans cs))) ≤ 37 * length cs
+spans-size : (cs : List Cell) → size (map span (map spanOf (spans cs))) ≤ 42 * length cs
 unfolding spans flatMap
 spans-size [] = omega arith
 spans-size (c ∷ cs) = omega (arith, from-bound (c ∷ []) cs)
 
-row-bound : (l : Look) (r : List Token) → isShort r ≡ true → size (map span (rowSpans (cellsOfRow l r))) ≤ 2368
+row-bound : (l : Look) (r : List Token) → isShort r ≡ true → size (map span (rowSpans (cellsOfRow l r))) ≤ 2688
 unfolding isShort rowSpans
 row-bound l r e =
     let cs = cellsOfRow l r in
@@ -171,7 +172,7 @@ row-bound l r e =
     )
 
 -- the rows of a subtitle, each with a tt:br
-later-bound : (l : Look) (rs : List (List Token)) → all isShort rs ≡ true → size (laterRows (cellRows l rs)) ≤ 2376 * length rs
+later-bound : (l : Look) (rs : List (List Token)) → all isShort rs ≡ true → size (laterRows (cellRows l rs)) ≤ 2696 * length rs
 unfolding cellRows laterRows flatMap writePiece bytes
 later-bound l [] e = omega arith
 later-bound l (r ∷ rs) e =
@@ -227,7 +228,7 @@ rows-fit f place vp text e =
 
 pieces-bound :
     (f : Format) (first : Header) (text : List ℕ) (place : ℕ) → isGood (textRule f place (first .vp) text) ≡ true → f .screen .end ≤ 99
-    → size (paragraphOf f (subtitleOf (f .mode) first (tokens text)) .pieces) ≤ 239900
+    → size (paragraphOf f (subtitleOf (f .mode) first (tokens text)) .pieces) ≤ 269900
 unfolding subtitleOf rowCount fillers
 pieces-bound f first text place e h =
     let ts = tokens text in
@@ -246,7 +247,7 @@ pieces-bound f first text place e h =
 
 made-bound :
     {Block : List ℕ → Type 0} {f : Format} → f .screen .end ≤ 99 → (s : Subtitle) → Made Block f s
-    → length (writeParagraph (paragraphOf f s)) ≤ 240000
+    → length (writeParagraph (paragraphOf f s)) ≤ 270000
 made-bound {f = f} h s m =
     rw (m .made)
     (let t = subtitleOf (f .mode) (s .first) (tokens (m .text)) in
@@ -328,20 +329,20 @@ module _ (mode : ℕ) (file : List ℕ) (p : Progress (List Subtitle)) (c : outc
   pub subtitles-bound : length (p .gathered) ≤ 99999
   subtitles-bound = omega (arith, held .few, tnb-bound mode file (rule-kept mode file p c))
 
-  pub paragraphs-bound : length (flatMap writeParagraph (map (paragraphOf (formatOf mode file)) (p .gathered))) ≤ 24000000000
+  pub paragraphs-bound : length (flatMap writeParagraph (map (paragraphOf (formatOf mode file)) (p .gathered))) ≤ 27000000000
   paragraphs-bound =
       omega (
         arith,
         subtitles-bound,
-        join-bound writeParagraph 240000 (all-map (paragraphOf (formatOf mode file)) (made-bound screen-end) (held .made)),
+        join-bound writeParagraph 270000 (all-map (paragraphOf (formatOf mode file)) (made-bound screen-end) (held .made)),
         length-map (p .gathered) (paragraphOf (formatOf mode file)),
       )
 
-  length-bound : length (render (documentOf (formatOf mode file) (p .gathered))) ≤ 24000100000
+  length-bound : length (render (documentOf (formatOf mode file) (p .gathered))) ≤ 27000100000
   unfolding documentOf
   length-bound = omega (arith, paragraphs-bound, render-bound (documentOf (formatOf mode file) (p .gathered)))
 
-  pub spans-bound : documentSpans (map (paragraphOf (formatOf mode file)) (p .gathered)) ≤ 24000100000
+  pub spans-bound : documentSpans (map (paragraphOf (formatOf mode file)) (p .gathered)) ≤ 27000100000
   unfolding documentOf
   spans-bound =
       let d = documentOf (formatOf mode file) (p .gathered) in

@@ -1,30 +1,30 @@
--- What holds of every cell of a text: a character that UTF-8 writes, and colours of three bits.
+-- What holds of every cell of a text: a character whose code points are read back, and colours of three bits.
 -- Assumes nothing.
-use Prim.Native.Nat.{ℕ, zero, suc, _+_, _*_}
+use Prim.Native.Nat.{ℕ}
 use native.Mathlib.Omega.{arith}
 use mathlib.Core.Path.{_≡_, refl, sym, ap, subst, _∙_}
 use mathlib.Core.Bool.{Bool, true, false}
 use mathlib.Core.List.{List, [], _∷_, _++_, map, append-assoc, flatMap, flatten}
 use lib.Dec.{eqb, ltb}
-use lib.ListN.{getD}
 use borrow.Author.Tests.{ltb-true}
+use Rattle.meaning.specs.declared.Glyph.{Glyph}
 use Rattle.meaning.specs.declared.Token.{Token}
 use Rattle.meaning.specs.declared.Token.the-variants.{Character, Control, Switch, RowEnd, Unlisted}
 use Rattle.meaning.specs.declared.Look.{Look}
 use Rattle.meaning.specs.Lists.{all}
-use Rattle.meaning.specs.Tables.{latinTable, composedTable}
-use Rattle.meaning.specs.Characters.{latin, accent, letter, composed}
+use Rattle.meaning.specs.Characters.{accent, letter}
+use Rattle.meaning.specs.Glyphs.{spelling}
 use Rattle.meaning.specs.Codes.{isControl, isSwitch, characterOf, codeToken, pairToken, isAccent, tokens, takesCell}
 use Rattle.meaning.specs.Rows.{breaksPaired, rows}
-use Rattle.meaning.specs.Cells.{Cell, Pen, points, glyphs, cellCharacter, controlHere, controlNext, switched, lookHere, lookNext, hiddenIf, cellOf, penAfter, cellsOf, cellsFrom, penEnd, rowStart, lookAfterRow, cellRows, isBlank}
+use Rattle.meaning.specs.Cells.{Cell, Pen, points, cellCharacter, controlHere, controlNext, switched, lookHere, lookNext, hiddenIf, cellOf, penAfter, cellsOf, cellsFrom, penEnd, rowStart, lookAfterRow, cellRows, isBlank}
 use Rattle.meaning.specs.Spans.{foregroundOf, lookOf, uniform, spansFrom, spans}
-use Rattle.meaning.specs.Profile.{isScalar}
 use Rattle.meaning.proofs.Logic.{by-test}
-use Rattle.meaning.proofs.ListLaws.{All, all-append, all-left, all-right, all-at, all-tested, test-all, test-split}
+use Rattle.meaning.proofs.ListLaws.{All, all-append, all-left, all-right, all-map, test-all, test-split}
 use Rattle.meaning.proofs.ListLaws.All.{nil, cons}
 use Rattle.meaning.proofs.LookLaws.{ThreeBits, white-bits, start-bits, blend-bits}
 use Rattle.meaning.proofs.RowLaws.{rows-tested}
 use Rattle.meaning.proofs.Tokens.{tokens-pair, tokens-code}
+use Rattle.laws.proofs.Spelling.{isSpelled, Spelled, space-spelled, latin-spelled, composed-spelled}
 
 -- a property `Of` of every cell of a text whose tokens pass a test: `Within` holds of the looks in a row, for each token keeps it;
 -- `Before` is all that the start of a row needs of the look before it, and the looks in a row have it
@@ -59,26 +59,8 @@ module _ {token : Token → Bool} {Before Within : Look → Type 0} {Of : Cell �
   pub text-keeps : (mode : ℕ) (l : Look) (ts : List Token) → Before l → all token ts ≡ true → All (All Of) (cellRows l (rows mode ts))
   text-keeps mode l ts h e = rows-keep l (rows mode ts) (rows-tested token (k .ends) (breaksPaired mode ts) ts ∙ e) h
 
--- the tables hold code points that UTF-8 writes, by one computed test
-scalar-at : (xs : List ℕ) (k : ℕ) → all isScalar xs ≡ true → isScalar (getD xs k 0) ≡ true
-scalar-at xs k e = all-at (all-tested isScalar xs e) 0 (unfold isScalar in refl) k
-
-tables : (all isScalar latinTable ≡ true) × (all isScalar composedTable ≡ true)
-unfolding all isScalar latinTable composedTable
-tables = (refl, refl)
-
-latin-scalar : (c : ℕ) → isScalar (latin c) ≡ true
-unfolding latin
-latin-scalar c = scalar-at latinTable c (tables .0)
-
-composed-scalar : (a l : ℕ) → isScalar (composed a l) ≡ true
-unfolding composed
-composed-scalar zero l = unfold isScalar in refl
-composed-scalar (suc a) zero = unfold isScalar in refl
-composed-scalar (suc a) (suc l) = scalar-at composedTable (52 * a + l) (tables .1)
-
 abbrev isWritable : Token → Bool
-isWritable (Character p) = isScalar p
+isWritable (Character g) = isSpelled g
 isWritable (Control c) = true
 isWritable (Switch c) = true
 isWritable RowEnd = true
@@ -87,10 +69,9 @@ isWritable Unlisted = true
 abbrev Writable : Token → Type 0
 Writable t = isWritable t ≡ true
 
-character-writable : (n : ℕ) → isScalar n ≡ true → Writable (characterOf n)
+character-writable : (g : Glyph) → Spelled g → Writable (characterOf g)
 unfolding characterOf
-character-writable zero h = refl
-character-writable (suc n) h = h
+character-writable g h = by-test (eqb (g .point) 0) (λ e. rw e) (λ e. rw e h)
 
 code-writable : (c : ℕ) → Writable (codeToken c)
 unfolding codeToken
@@ -103,11 +84,11 @@ code-writable c =
     (λ f.
     by-test (isSwitch c)
     (λ g. rw (e, f, g, codeToken))
-    (λ g. rw (e, f, g, codeToken) (character-writable (latin c) (latin-scalar c)))))
+    (λ g. rw (e, f, g, codeToken) (character-writable _ (latin-spelled c)))))
 
 pair-writable : (a c : ℕ) → Writable (pairToken a c)
 unfolding pairToken
-pair-writable a c = character-writable _ (composed-scalar (accent a) (letter c))
+pair-writable a c = character-writable _ (composed-spelled (accent a) (letter c))
 
 tokens-writable : (cs : List ℕ) → All Writable (tokens cs)
 tokens-writable [] = unfold tokens in nil
@@ -119,7 +100,7 @@ tokens-writable (c ∷ d ∷ cs) =
 
 here-bits : (t : Token) (l : Look) → ThreeBits l → ThreeBits (lookHere t l)
 unfolding lookHere controlHere
-here-bits (Character p) l h = h
+here-bits (Character g) l h = h
 here-bits (Control c) l h =
     record {
       background =
@@ -142,39 +123,40 @@ control-bits c l h =
 
 pub next-bits : (t : Token) (l : Look) → ThreeBits l → ThreeBits (lookNext t l)
 unfolding lookNext switched
-next-bits (Character p) l h = h
+next-bits (Character g) l h = h
 next-bits (Control c) l h = control-bits c (controlHere c l) (unfold lookHere in here-bits (Control c) l h)
 next-bits (Switch c) l h = record { background = h .background; colour = h .colour }
 next-bits RowEnd l h = h
 next-bits Unlisted l h = h
 
 pub record Sound (c : Cell) : Type 0 where
-  pub character : isScalar (c .character) ≡ true
+  pub character : Spelled (c .character)
   pub look : ThreeBits (c .look)
 
-cell-scalar : (t : Token) → Writable t → isScalar (cellCharacter t) ≡ true
-unfolding cellCharacter isScalar
-cell-scalar (Character p) h = h
-cell-scalar (Control c) h = refl
-cell-scalar (Switch c) h = refl
-cell-scalar RowEnd h = refl
-cell-scalar Unlisted h = refl
+cell-spelled : (t : Token) → Writable t → Spelled (cellCharacter t)
+unfolding cellCharacter
+cell-spelled (Character g) h = h
+cell-spelled (Control c) h = space-spelled
+cell-spelled (Switch c) h = space-spelled
+cell-spelled RowEnd h = space-spelled
+cell-spelled Unlisted h = space-spelled
 
--- reading back the code points of cells gives their characters
-pub glyphs-points : {cs : List Cell} → All Sound cs → glyphs (flatMap points cs) ≡ map (λ (c : Cell). c .character) cs
-unfolding glyphs points flatMap
-glyphs-points nil = refl
-glyphs-points (cons {x = c} s h) = ap (λ (l : List ℕ). c .character ∷ l) (glyphs-points h)
+-- the characters of cells, and their code points
+unfoldable pub characters : List Cell → List Glyph
+characters cs = map (λ (c : Cell). c .character) cs
 
--- and they are such that UTF-8 writes
-pub points-scalar : {cs : List Cell} → All Sound cs → All (λ (p : ℕ). isScalar p ≡ true) (flatMap points cs)
-unfolding points flatMap
-points-scalar nil = nil
-points-scalar (cons s h) = cons (s .character) (points-scalar h)
+pub characters-spelled : {cs : List Cell} → All Sound cs → All Spelled (characters cs)
+unfolding characters
+characters-spelled h = all-map _ (λ c s. s .character) h
+
+pub points-of : (cs : List Cell) → flatMap points cs ≡ flatMap spelling (characters cs)
+unfolding points flatMap characters
+points-of [] = refl
+points-of (c ∷ cs) = ap (λ (l : List ℕ). spelling (c .character) ++ l) (points-of cs)
 
 shown-sound : (hidden : Bool) (c : Cell) → Sound c → Sound (hiddenIf hidden c)
 unfolding hiddenIf
-shown-sound true c s = record { character = unfold isScalar in refl; look = white-bits (c .look .double) }
+shown-sound true c s = record { character = space-spelled; look = white-bits (c .look .double) }
 shown-sound false c s = s
 
 -- a row may start from any look
@@ -183,7 +165,7 @@ unfolding cellOf rowStart
 sound =
     record {
       ends = refl;
-      cell = λ t p v h. shown-sound (p .hidden) _ (record { character = cell-scalar t v; look = here-bits t (p .look) h });
+      cell = λ t p v h. shown-sound (p .hidden) _ (record { character = cell-spelled t v; look = here-bits t (p .look) h });
       next = λ t l v h. next-bits t l h;
       start = λ r l h. start-bits l;
       left = λ l h. tt;

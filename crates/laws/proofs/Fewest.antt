@@ -7,7 +7,9 @@ use mathlib.Core.List.{List, [], _∷_, _++_, map}
 use lib.ListN.{length}
 use Rattle.meaning.specs.declared.Look.{Look}
 use Rattle.meaning.specs.Looks.{unpack}
-use Rattle.meaning.specs.Cells.{Cell, glyphs, isBlankOnBlack, trimFront, beforeTrimmed, trimBack, shown}
+use Rattle.meaning.specs.declared.Glyph.{Glyph}
+use Rattle.meaning.specs.Glyphs.{glyphs}
+use Rattle.meaning.specs.Cells.{Cell, isBlankOnBlack, trimFront, beforeTrimmed, trimBack, shown}
 use Rattle.meaning.specs.Spans.{uniform, spansFrom, spans}
 use Rattle.meaning.specs.Document.{Span}
 use Rattle.meaning.specs.Profile.{spanCells, rowCells, SameCell, SameCells}
@@ -80,10 +82,10 @@ cover-same (next k) r = next (cover-same k r)
 
 -- a document's row is covered by its spans
 cover-span :
-    (l : Look) (ps : List ℕ) (rest : List Cell) (n : ℕ) → Cover l rest n
-    → Cover l (map (λ (p : ℕ). record { character = p; look = l }) ps ++ rest) n
+    (l : Look) (gs : List Glyph) (rest : List Cell) (n : ℕ) → Cover l rest n
+    → Cover l (map (λ (g : Glyph). record { character = g; look = l }) gs ++ rest) n
 cover-span l [] rest n k = k
-cover-span l (p ∷ ps) rest n k = more (fits-own _) (cover-span l ps rest n k)
+cover-span l (g ∷ gs) rest n k = more (fits-own _) (cover-span l gs rest n k)
 
 cover-row : (l : Look) (ss : List Span) → Cover l (rowCells ss) (length ss)
 unfolding rowCells spanCells

@@ -8,6 +8,7 @@ pub mod FewestInAll
 pub mod Steps
 pub mod Gathering
 pub mod Walk
+pub mod Spelling
 pub mod CellFacts
 pub mod OwnRows
 pub mod OwnProfile

@@ -5,6 +5,7 @@ use mathlib.Core.Path.{_≡_, refl, sym, ap, subst, _∙_}
 use mathlib.Core.Bool.{true}
 use mathlib.Core.List.{List, [], _∷_, _++_, map, append-assoc, flatten, tail}
 use lib.ListN.{getD, replicate}
+use Rattle.meaning.specs.declared.Glyph.{Glyph}
 use Rattle.meaning.specs.declared.Look.{Look}
 use Rattle.meaning.specs.declared.Format.{Format}
 use Rattle.meaning.specs.Lists.{ontoFirst}
@@ -24,7 +25,8 @@ use Rattle.laws.proofs.Pieces.{fillersOf, pieces-are}
 use Rattle.laws.proofs.Fitting.{Fits, all-say, one-uniform}
 use Rattle.laws.proofs.Trimming.{shown-nil, shown-twice, same-shown, all-shown}
 use Rattle.meaning.proofs.LookLaws.{ThreeBits, unpack-pack}
-use Rattle.laws.proofs.CellFacts.{Sound, glyphs-points, spans-flat, spans-all, span-bits}
+use Rattle.laws.proofs.Spelling.{glyphs-points}
+use Rattle.laws.proofs.CellFacts.{Sound, characters, characters-spelled, points-of, spans-flat, spans-all, span-bits}
 
 -- each span is uniform
 abbrev Uniform : List Cell → Type 0
@@ -51,7 +53,8 @@ fits-same l c h f =
 
 span-same :
     (l : Look) {g : List Cell} (cs ds : List Cell) → ThreeBits l → All (Fits l) g → SameCells cs ds
-    → SameCells (g ++ cs) (map (λ (p : ℕ). record { character = p; look = unpack (pack l) }) (map (λ (c : Cell). c .character) g) ++ ds)
+    → SameCells (g ++ cs) (map (λ (p : Glyph). record { character = p; look = unpack (pack l) }) (characters g) ++ ds)
+unfolding characters
 span-same l cs ds h nil r = r
 span-same l cs ds h (cons f k) r = both (fits-same l _ h f) (span-same l cs ds h k r)
 
@@ -59,7 +62,7 @@ spans-same : (gs : List (List Cell)) → All Uniform gs → All (All Sound) gs �
 unfolding flatten rowCells spanCells spanOf uniform
 spans-same [] u h = none
 spans-same (g ∷ gs) (cons u us) (cons k h) =
-    rw (glyphs-points k) (span-same (lookOf g) (flatten gs) _ (span-bits g k) (all-say (lookOf g) g u) (spans-same gs us h))
+    rw (points-of g, glyphs-points (characters-spelled k)) (span-same (lookOf g) (flatten gs) _ (span-bits g k) (all-say (lookOf g) g u) (spans-same gs us h))
 
 row-same : (row : List Cell) → All Sound row → SameCells (shown row) (rowCells (rowSpans row))
 unfolding rowSpans

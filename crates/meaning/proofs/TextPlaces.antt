@@ -5,8 +5,10 @@ use native.Mathlib.Omega.{arith}
 use mathlib.Core.Path.{_≡_, refl, sym, ap, _∙_}
 use mathlib.Core.Bool.{true, false}
 use mathlib.Core.List.{List, [], _∷_}
+use lib.Dec.{eqb}
 use lib.ListN.{drop}
 use lib.Seq.{drop-drop}
+use Rattle.meaning.specs.declared.Glyph.{Glyph}
 use Rattle.meaning.specs.Codes.{isAccent, pairToken, characterOf, tokens, isRowEnd}
 use Rattle.meaning.specs.TextRules.{endFirst, firstSize, bytesBefore}
 use Rattle.meaning.proofs.Logic.{by-test, false-not-true}
@@ -28,10 +30,9 @@ unfolding firstSize
 size-last c cs e = rw e
 
 -- a row end is one byte: no accent pair is a row end
-no-end : (p : ℕ) → isRowEnd (characterOf p) ≡ false
+no-end : (g : Glyph) → isRowEnd (characterOf g) ≡ false
 unfolding isRowEnd characterOf
-no-end zero = refl
-no-end (suc p) = refl
+no-end g = by-test (eqb (g .point) 0) (λ e. rw e) (λ e. rw e)
 
 pub size-end : (s : List ℕ) → endFirst (tokens s) ≡ true → firstSize s ≡ 1
 unfolding endFirst tokens pairToken

@@ -4,37 +4,30 @@ use Prim.Native.Nat.{ℕ}
 use mathlib.Core.Bool.{Bool, true, false, cond, not, _&&_, _||_}
 use mathlib.Core.List.{List, [], _∷_, _++_}
 use lib.Dec.{ltb, eqb}
+use Rattle.meaning.specs.declared.Glyph.{Glyph}
 use Rattle.meaning.specs.declared.Token.{Token}
 use Rattle.meaning.specs.declared.Token.the-variants.{Character, Control, Switch, RowEnd, Unlisted}
 use Rattle.meaning.specs.declared.Look.{Look}
 use Rattle.meaning.specs.Lists.{any}
+use Rattle.meaning.specs.Glyphs.{spelling, space, isSpace}
 use Rattle.meaning.specs.Codes.{takesCell, isBoxStart, isBoxEnd, isBoxCode}
 use Rattle.meaning.specs.Looks.{black, whiteOnBlack, withBackground, withColour, startLook, onBlack}
 
 pub record Cell : Type 0 where
-  pub character : ℕ
+  pub character : Glyph
   pub look : Look
 
--- U+0020
-abbrev pub blank : ℕ
-blank = 32
-
--- the code points of a cell's character: one
+-- the code points of a cell
 unfoldable pub points : Cell → List ℕ
-points c = c .character ∷ []
-
--- the characters that code points spell, one for each cell: each code point is one
-unfoldable pub glyphs : List ℕ → List ℕ
-glyphs [] = []
-glyphs (p ∷ ps) = p ∷ glyphs ps
+points c = spelling (c .character)
 
 -- a control yields a blank cell
-unfoldable pub cellCharacter : Token → ℕ
-cellCharacter (Character p) = p
-cellCharacter (Control c) = blank
-cellCharacter (Switch c) = blank
-cellCharacter RowEnd = blank
-cellCharacter Unlisted = blank
+unfoldable pub cellCharacter : Token → Glyph
+cellCharacter (Character g) = g
+cellCharacter (Control c) = space
+cellCharacter (Switch c) = space
+cellCharacter RowEnd = space
+cellCharacter Unlisted = space
 
 -- 1Ch and 1Dh hold at their own cell: black background, and the current colour as background
 unfoldable pub controlHere : ℕ → Look → Look
@@ -57,14 +50,14 @@ switched c l =
 
 -- the look of a token's cell, from the look before it, and the look after it
 unfoldable pub lookHere : Token → Look → Look
-lookHere (Character p) l = l
+lookHere (Character g) l = l
 lookHere (Control c) l = controlHere c l
 lookHere (Switch c) l = l
 lookHere RowEnd l = l
 lookHere Unlisted l = l
 
 unfoldable pub lookNext : Token → Look → Look
-lookNext (Character p) l = l
+lookNext (Character g) l = l
 lookNext (Control c) l = controlNext c (controlHere c l)
 lookNext (Switch c) l = switched c l
 lookNext RowEnd l = l
@@ -76,7 +69,7 @@ hiddenNext t hidden = isBoxEnd t || (not (isBoxStart t) && hidden)
 
 -- a hidden cell becomes a blank on black in the subtitle's height
 abbrev pub hiddenCell : Bool → Cell
-hiddenCell double = record { character = blank; look = whiteOnBlack double }
+hiddenCell double = record { character = space; look = whiteOnBlack double }
 
 unfoldable pub hiddenIf : Bool → Cell → Cell
 hiddenIf true c = hiddenCell (c .look .double)
@@ -126,7 +119,7 @@ cellRows l (r ∷ rs) = cellsOfRow l r ∷ cellRows (lookAfterRow l r) rs
 
 -- a blank is the cell of 20h or of a control, or a hidden one; an underlined space is none
 unfoldable pub isBlank : Cell → Bool
-isBlank c = eqb (c .character) blank && not (c .look .underline)
+isBlank c = isSpace (c .character) && not (c .look .underline)
 
 unfoldable pub isBlankOnBlack : Cell → Bool
 isBlankOnBlack c = isBlank c && onBlack (c .look)

@@ -1,12 +1,14 @@
 -- A text's codes and what they stand for: document 01, "Text to rows"; document 02, requests 1 and 2.
 -- Assumes nothing.
-use Prim.Native.Nat.{ℕ, zero, suc}
-use mathlib.Core.Bool.{Bool, true, false, not, _&&_, _||_}
+use Prim.Native.Nat.{ℕ}
+use mathlib.Core.Bool.{Bool, true, false, cond, not, _&&_, _||_}
 use mathlib.Core.List.{List, [], _∷_}
 use lib.Dec.{ltb, leb, eqb}
+use Rattle.meaning.specs.declared.Glyph.{Glyph}
 use Rattle.meaning.specs.declared.Token.{Token}
 use Rattle.meaning.specs.declared.Token.the-variants.{Character, Control, Switch, RowEnd, Unlisted}
 use Rattle.meaning.specs.Characters.{latin, accent, letter, composed}
+use Rattle.meaning.specs.Glyphs.{single}
 
 -- 00h to 07h, 0Ah, 0Bh, 0Dh, 1Ch, 1Dh
 unfoldable pub isControl : ℕ → Bool
@@ -16,10 +18,9 @@ isControl c = ltb c 8 || eqb c 10 || eqb c 11 || eqb c 13 || eqb c 28 || eqb c 2
 unfoldable pub isSwitch : ℕ → Bool
 isSwitch c = leb 128 c && leb c 131
 
--- a code point, where there is one
-unfoldable pub characterOf : ℕ → Token
-characterOf zero = Unlisted
-characterOf (suc p) = Character (suc p)
+-- a character, where there is one: a code point of 0 stands for none
+unfoldable pub characterOf : Glyph → Token
+characterOf g = cond (eqb (g .point) 0) Unlisted (Character g)
 
 -- a code by itself; no accent is listed alone
 unfoldable pub codeToken : ℕ → Token
@@ -29,13 +30,13 @@ codeToken c =
       | false ↦
           elim (isControl c) [
             | true ↦ Control c
-            | false ↦ elim (isSwitch c) [ true ↦ Switch c | false ↦ characterOf (latin c) ]
+            | false ↦ elim (isSwitch c) [ true ↦ Switch c | false ↦ characterOf (single (latin c)) ]
           ]
     ]
 
 -- an accent and the code after it
 unfoldable pub pairToken : ℕ → ℕ → Token
-pairToken a c = characterOf (composed (accent a) (letter c))
+pairToken a c = characterOf (single (composed (accent a) (letter c)))
 
 unfoldable pub isAccent : ℕ → Bool
 isAccent c = not (eqb (accent c) 0)
@@ -49,21 +50,21 @@ tokens (c ∷ d ∷ cs) =
 
 -- listed in teletext files, or in those of open subtitles: controls are for teletext, switches for open subtitles
 unfoldable pub isListed : Bool → Token → Bool
-isListed teletext (Character p) = true
+isListed teletext (Character g) = true
 isListed teletext (Control c) = teletext
 isListed teletext (Switch c) = not teletext
 isListed teletext RowEnd = true
 isListed teletext Unlisted = false
 
 unfoldable pub isCharacter : Token → Bool
-isCharacter (Character p) = true
+isCharacter (Character g) = true
 isCharacter (Control c) = false
 isCharacter (Switch c) = false
 isCharacter RowEnd = false
 isCharacter Unlisted = false
 
 unfoldable pub isRowEnd : Token → Bool
-isRowEnd (Character p) = false
+isRowEnd (Character g) = false
 isRowEnd (Control c) = false
 isRowEnd (Switch c) = false
 isRowEnd RowEnd = true
@@ -71,7 +72,7 @@ isRowEnd Unlisted = false
 
 -- a token of a row takes a cell: every one does but a switch, and no row holds a row end
 unfoldable pub takesCell : Token → Bool
-takesCell (Character p) = true
+takesCell (Character g) = true
 takesCell (Control c) = true
 takesCell (Switch c) = false
 takesCell RowEnd = true
@@ -79,7 +80,7 @@ takesCell Unlisted = true
 
 -- the control of a code
 unfoldable pub isControlOf : ℕ → Token → Bool
-isControlOf code (Character p) = false
+isControlOf code (Character g) = false
 isControlOf code (Control c) = eqb c code
 isControlOf code (Switch c) = false
 isControlOf code RowEnd = false

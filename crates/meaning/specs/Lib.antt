@@ -2,6 +2,7 @@ pub mod Lists
 pub mod Refusals
 pub mod Tables
 pub mod Characters
+pub mod Glyphs
 pub mod Codes
 pub mod Rows
 pub mod TextRules

@@ -8,7 +8,9 @@ use lib.Dec.{ltb, leb, eqb}
 use lib.ListN.{getD}
 use Rattle.meaning.specs.Lists.{all, ontoFirst, bytes}
 use Rattle.meaning.specs.Looks.{lookCount, unpack, shared, free}
-use Rattle.meaning.specs.Cells.{Cell, glyphs, isBlank, shown}
+use Rattle.meaning.specs.declared.Glyph.{Glyph}
+use Rattle.meaning.specs.Glyphs.{glyphs}
+use Rattle.meaning.specs.Cells.{Cell, isBlank, shown}
 use Rattle.meaning.specs.Gsi.{isRate}
 use Rattle.meaning.specs.Blocks.{timesRight}
 use Rattle.meaning.specs.Walk.{Subtitle}
@@ -48,7 +50,7 @@ documentRows (br ∷ ps) = [] ∷ documentRows ps
 
 -- a character, of as many code points as it has, is a cell with its span's look
 unfoldable pub spanCells : Span → List Cell
-spanCells s = map (λ (p : ℕ). record { character = p; look = unpack (s .look) }) (glyphs (s .characters))
+spanCells s = map (λ (g : Glyph). record { character = g; look = unpack (s .look) }) (glyphs (s .characters))
 
 unfoldable pub rowCells : List Span → List Cell
 rowCells [] = []

@@ -168,9 +168,15 @@ impl Format {
     }
 }
 
-// What one code of a text, or an accent with its letter, stands for.
+// The character of a cell: a code point, and the combining mark on it, 0 where there is none.
+pub struct Glyph {
+    pub point: u16,
+    pub mark: u16,
+}
+
+// What one code of a text, or an accent with the code after it, stands for.
 pub enum Token {
-    Character(u16),
+    Character(Glyph),
     Control(u8),
     Switch(u8),
     RowEnd,

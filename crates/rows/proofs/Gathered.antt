@@ -10,12 +10,12 @@ use lib.ListN.{length, length-append}
 use lib.Seq.{append-snoc}
 use borrow.Author.Tests.{lt-ltb}
 use Rattle.meaning.specs.declared.Token.{Token}
-use Rattle.meaning.specs.declared.Token.the-variants.{Character}
 use Rattle.meaning.specs.Lists.{all, any, keep}
 use Rattle.meaning.specs.Codes.{isListed, isCharacter, takesCell, isControlOf, isDoubleHeight}
 use Rattle.meaning.specs.Rows.{heightFirst, rowLimit, isShort}
 use Rattle.meaning.proofs.Logic.{by-test, same-leb}
 use Rattle.meaning.proofs.ListLaws.{any-cons, all-end, any-end}
+use Rattle.charset.specs.Plain.{plainToken}
 use Rattle.rows.specs.declared.RowFacts.{RowFacts}
 use Rattle.rows.specs.Scanning.{countLimit, factsOfRow, withToken, withCharacters, factsOfRows, withRow}
 
@@ -53,20 +53,20 @@ with-token teletext ts t =
     rw (keep-append ts (t ∷ []), length-append) (by-test (takesCell t) (λ e. rw (e, keep) (omega arith)) (λ e. rw (e, keep) (omega arith))) in
     rw (cells, all-end (isListed teletext) ts t, any-end isDoubleHeight ts t, any-end isCharacter ts t, height-end ts t)
 
-more-characters : (teletext : Bool) (f : RowFacts) (c n : ℕ) → withCharacters (withToken teletext f (Character c)) n ≡ withCharacters f (suc n)
+more-characters : (teletext : Bool) (f : RowFacts) (c n : ℕ) → withCharacters (withToken teletext f (plainToken c)) n ≡ withCharacters f (suc n)
 unfolding withCharacters withToken isListed isCharacter takesCell isControlOf
 more-characters teletext f c n =
     let cells : min (min (f .cells + 1) countLimit + n) countLimit ≡ min (f .cells + suc n) countLimit = omega arith in
     rw (cells, lt-ltb 0 (suc n) (omega arith), or-true (f .character))
 
-pub with-characters : (teletext : Bool) (ts : List Token) (cs : List ℕ) → factsOfRow teletext (ts ++ map Character cs) ≡ withCharacters (factsOfRow teletext ts) (length cs)
+pub with-characters : (teletext : Bool) (ts : List Token) (cs : List ℕ) → factsOfRow teletext (ts ++ map plainToken cs) ≡ withCharacters (factsOfRow teletext ts) (length cs)
 with-characters teletext ts [] =
     unfold factsOfRow withCharacters in
     let cells : min (min (length (keep takesCell ts)) countLimit + 0) countLimit ≡ min (length (keep takesCell ts)) countLimit = omega arith in
     rw (append-nil ts, cells, or-false (any isCharacter ts))
 with-characters teletext ts (c ∷ cs) =
-    ap (factsOfRow teletext) (sym (append-snoc ts (Character c) (map Character cs))) ∙ with-characters teletext (ts ++ (Character c ∷ [])) cs
-    ∙ ap (λ (f : RowFacts). withCharacters f (length cs)) (with-token teletext ts (Character c)) ∙ more-characters teletext (factsOfRow teletext ts) c (length cs)
+    ap (factsOfRow teletext) (sym (append-snoc ts (plainToken c) (map plainToken cs))) ∙ with-characters teletext (ts ++ (plainToken c ∷ [])) cs
+    ∙ ap (λ (f : RowFacts). withCharacters f (length cs)) (with-token teletext ts (plainToken c)) ∙ more-characters teletext (factsOfRow teletext ts) c (length cs)
 
 pub with-row :
     (teletext : Bool) (rs : List (List Token)) (r : List Token) → factsOfRows teletext (rs ++ (r ∷ [])) ≡ withRow (factsOfRows teletext rs) (factsOfRow teletext r)

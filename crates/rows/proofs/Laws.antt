@@ -7,7 +7,6 @@ use mathlib.Core.Bool.{Bool, true, false, _&&_}
 use mathlib.Core.List.{List, [], _∷_, map, _++_}
 use Rattle.meaning.specs.declared.Rows.{Rows}
 use Rattle.meaning.specs.declared.Token.{Token}
-use Rattle.meaning.specs.declared.Token.the-variants.{Character}
 use Rattle.meaning.specs.Lists.{any, takeWhile, ontoFirst}
 use Rattle.meaning.specs.Codes.{isRowEnd}
 use Rattle.meaning.specs.Rows.{splitRows, firstRow, pairedFrom, rowsOf, evenFrom, linesOf}
@@ -15,6 +14,7 @@ use Rattle.meaning.specs.TextRules.{endFirst}
 use Rattle.meaning.proofs.Logic.{by-test, false-not-true}
 pub use Rattle.meaning.proofs.RowClauses.{first-end, first-more}
 use Rattle.meaning.proofs.RowClauses.{split-end, split-more}
+use Rattle.charset.specs.Plain.{plainToken}
 use Rattle.rows.specs.Scanned.{isEnded}
 use Rattle.rows.proofs.FirstRow.{afterRow, withoutEnd, nextRows, rowsAfter}
 
@@ -52,16 +52,16 @@ ended-none = refl
 
 -- a run of characters is within its row
 module _ (ts : List Token) where
-  pub first-run : (cs : List ℕ) → firstRow (map Character cs ++ ts) ≡ map Character cs ++ firstRow ts
+  pub first-run : (cs : List ℕ) → firstRow (map plainToken cs ++ ts) ≡ map plainToken cs ++ firstRow ts
   unfolding isRowEnd
   first-run [] = refl
   first-run (c ∷ cs) =
-      first-more (Character c) (map Character cs ++ ts) refl ∙ ap (λ (us : List Token). Character c ∷ us) (first-run cs)
+      first-more (plainToken c) (map plainToken cs ++ ts) refl ∙ ap (λ (us : List Token). plainToken c ∷ us) (first-run cs)
 
-  pub ended-run : (cs : List ℕ) → isEnded (map Character cs ++ ts) ≡ isEnded ts
+  pub ended-run : (cs : List ℕ) → isEnded (map plainToken cs ++ ts) ≡ isEnded ts
   unfolding isRowEnd
   ended-run [] = refl
-  ended-run (c ∷ cs) = ended-more (Character c) (map Character cs ++ ts) refl ∙ ended-run cs
+  ended-run (c ∷ cs) = ended-more (plainToken c) (map plainToken cs ++ ts) refl ∙ ended-run cs
 
 -- what follows the first row, by the test whether there is a row end
 module _ (paired : Bool) (ts : List Token) where

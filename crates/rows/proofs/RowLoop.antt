@@ -8,7 +8,6 @@ use mathlib.Core.List.{List, [], _∷_, map, _++_, append-nil, append-assoc}
 use lib.ListN.{length, take, drop, length-take, length-drop}
 use lib.Seq.{append-snoc}
 use Rattle.meaning.specs.declared.Token.{Token}
-use Rattle.meaning.specs.declared.Token.the-variants.{Character}
 use Rattle.meaning.specs.Codes.{isRowEnd, isControlOf, isDoubleHeight, tokens}
 use Rattle.meaning.specs.Lists.{all, any, keep}
 use Rattle.meaning.specs.Rows.{isDouble, firstRow, heightFirst}
@@ -17,6 +16,7 @@ use Rattle.charset.specs.declared.Reading.{Reading}
 use Rattle.charset.specs.Reading.{afterRowAt}
 use Rattle.charset.proofs.Positions.{row-over}
 use Rattle.charset.proofs.Laws.{ReadOn, RunOn, tokens-end}
+use Rattle.charset.specs.Plain.{plainToken}
 use Rattle.rows.specs.declared.RowFacts.{RowFacts}
 use Rattle.rows.specs.Scanning.{factsOfRow, withToken, withCharacters}
 use Rattle.rows.specs.Scanned.{isEnded, Scanned}
@@ -56,9 +56,9 @@ module _ {teletext : Bool} {s : List ℕ} {start i : ℕ} {f : RowFacts} (l : Ro
       let ts = tokens (drop e s) in
       let n : e - i ≡ length cs = omega (arith, length-take (e - i) (drop i s), length-drop i s, o .within) in
       record {
-        past = l .past ++ map Character cs;
+        past = l .past ++ map plainToken cs;
         facts = g ∙ ap (withCharacters f) n ∙ rw (l .facts) (sym (with-characters teletext (l .past) cs));
-        row = append-assoc (l .past) (map Character cs) (firstRow ts) ∙ ap (λ (us : List Token). l .past ++ us) (sym (ap firstRow (o .first) ∙ first-run ts cs)) ∙ l .row;
+        row = append-assoc (l .past) (map plainToken cs) (firstRow ts) ∙ ap (λ (us : List Token). l .past ++ us) (sym (ap firstRow (o .first) ∙ first-run ts cs)) ∙ l .row;
         ended = sym (ap isEnded (o .first) ∙ ended-run ts cs) ∙ l .ended;
         next = sym (o .row) ∙ l .next;
       }
@@ -94,7 +94,7 @@ pub record HeightLeft (s : List ℕ) (i : ℕ) : Type 0 where
 pub height-start : (s : List ℕ) → HeightLeft s 0
 height-start s = record { height = refl }
 
-run-height : (cs : List ℕ) (ts : List Token) → any isDoubleHeight (map Character cs ++ ts) ≡ any isDoubleHeight ts
+run-height : (cs : List ℕ) (ts : List Token) → any isDoubleHeight (map plainToken cs ++ ts) ≡ any isDoubleHeight ts
 unfolding any isControlOf
 run-height [] ts = refl
 run-height (c ∷ cs) ts = run-height cs ts

@@ -10,7 +10,7 @@ use Rattle.meaning.specs.Cells.{Cell, points}
 use Rattle.meaning.specs.Spans.{uniform, spansFrom, spans}
 use Rattle.meaning.specs.Conversion.{spanOf, rowSpans}
 use Rattle.meaning.proofs.Logic.{by-test}
-use Rattle.cells.specs.Arrays.{packedCell, cellAt, cellsAt}
+use Rattle.cells.specs.Arrays.{packedPoints, packedCell, cellAt, cellsAt}
 use Rattle.spans.specs.declared.Shown.{Shown}
 use Rattle.spans.specs.declared.SpanRead.{SpanRead}
 use Rattle.spans.specs.Ranges.{cellsTo, shownRange, firstSpan, spanAt}
@@ -19,12 +19,12 @@ use Rattle.spans.proofs.Trimming.{shown-range}
 
 -- the code points of cells in the arrays
 pub to-characters : (characters looks : List ℕ) (i n : ℕ) → i + n ≤ length characters
-    → flatMap points (cellsAt characters looks i n) ≡ take n (drop i characters)
-unfolding cellsAt packedCell points flatMap
+    → flatMap points (cellsAt characters looks i n) ≡ flatMap packedPoints (take n (drop i characters))
+unfolding cellsAt packedCell points packedPoints flatMap
 to-characters characters looks i zero h = refl
 to-characters characters looks i (suc n) h =
     let here : i < length characters = omega arith in
-    rw (drop-cons characters i 0 here) (ap (λ (xs : List ℕ). getD characters i 0 ∷ xs) (to-characters characters looks (suc i) n (omega arith)))
+    rw (drop-cons characters i 0 here) (ap (λ (xs : List ℕ). packedPoints (getD characters i 0) ++ xs) (to-characters characters looks (suc i) n (omega arith)))
 
 -- the spans of a row, in the arrays
 pub no-spans : (characters looks : List ℕ) (i e : ℕ) → e ≤ i → map spanOf (spans (cellsTo characters looks i e)) ≡ []
@@ -64,7 +64,7 @@ module _ (characters looks : List ℕ) where
   pub first-span : (start e : ℕ) {r : SpanRead} → r ≡ spanAt start (cellsTo characters looks start e) → start < e → e ≤ length characters
       → (start < r .end) × (r .end ≤ e)
       × (map spanOf (spans (cellsTo characters looks start e))
-      ≡ record { look = r .look; characters = take (r .end - start) (drop start characters) } ∷ map spanOf (spans (cellsTo characters looks (r .end) e)))
+      ≡ record { look = r .look; characters = flatMap packedPoints (take (r .end - start) (drop start characters)) } ∷ map spanOf (spans (cellsTo characters looks (r .end) e)))
   unfolding spanAt firstSpan spanOf
   first-span start e q h k =
       let b = cellAt characters looks start in

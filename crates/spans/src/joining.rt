@@ -16,7 +16,7 @@ pub(crate) struct Foreground {
 }
 
 // An underlined space is no blank.
-pub(crate) fn is_blank(character: u16, look: u16) -> bool
+pub(crate) fn is_blank(character: u32, look: u16) -> bool
     ensures { λ r. ⌜ r ≡ isBlank (packedCell character look) ⌝ }
 {
     (character == BLANK) & !Look::unpack(look).underline
@@ -33,7 +33,7 @@ pub(crate) fn no_foreground() -> Foreground
 }
 
 // A blank joins whatever its foreground, and every foreground joins where there are only blanks.
-pub(crate) fn is_joining(first: u16, fore: Foreground, character: u16, look: u16) -> bool
+pub(crate) fn is_joining(first: u16, fore: Foreground, character: u32, look: u16) -> bool
     ensures { λ r. ⌜ r ≡ joins (unpack first) fore (packedCell character look) ⌝ }
 {
     let l = Look::unpack(look);
@@ -43,7 +43,7 @@ pub(crate) fn is_joining(first: u16, fore: Foreground, character: u16, look: u16
 }
 
 // The foreground with one more cell.
-pub(crate) fn foreground_with(fore: Foreground, character: u16, look: u16) -> Foreground
+pub(crate) fn foreground_with(fore: Foreground, character: u32, look: u16) -> Foreground
     ensures { λ r. ⌜ r ≡ foregroundWith fore character look ⌝ }
 {
     if fore.blanks & !is_blank(character, look) {

@@ -24,14 +24,14 @@ pub struct SpanRead {
     pub look: u16,
 }
 
-fn is_blank_on_black(character: u16, look: u16) -> bool
+fn is_blank_on_black(character: u32, look: u16) -> bool
     ensures { λ r. ⌜ r ≡ isBlankOnBlack (packedCell character look) ⌝ }
 {
     joining::is_blank(character, look) & Look::unpack(look).on_black()
 }
 
 // The first of n cells that is no blank on black, or n.
-fn first_shown(characters: &[u16], looks: &[u16], n: usize) -> usize
+fn first_shown(characters: &[u32], looks: &[u16], n: usize) -> usize
     requires { ⌜ (n ≤ length (now characters)) × (n ≤ length (now looks)) ⌝ }
     ensures { λ r. ⌜ r ≡ length (takeWhile isBlankOnBlack (cellsAt (now (characters .entry)) (now (looks .entry)) 0 n)) ⌝ }
 {
@@ -46,7 +46,7 @@ fn first_shown(characters: &[u16], looks: &[u16], n: usize) -> usize
 }
 
 // The index after the last of the cells from start up to n that is no blank on black, or start.
-fn end_shown(characters: &[u16], looks: &[u16], start: usize, n: usize) -> usize
+fn end_shown(characters: &[u32], looks: &[u16], start: usize, n: usize) -> usize
     requires { ⌜ (start ≤ n) × (n ≤ length (now characters)) × (n ≤ length (now looks)) ⌝ }
     ensures { λ r. ⌜ r ≡ start + length (trimBack (cellsTo (now (characters .entry)) (now (looks .entry)) start n)) ⌝ }
 {
@@ -62,14 +62,14 @@ fn end_shown(characters: &[u16], looks: &[u16], start: usize, n: usize) -> usize
 }
 
 // Both arrays have the cells below the result.
-fn cut_to(characters: &[u16], looks: &[u16], n: usize) -> usize
+fn cut_to(characters: &[u32], looks: &[u16], n: usize) -> usize
     ensures { λ r. ⌜ r ≡ cut (now (characters .entry)) (now (looks .entry)) n ⌝ }
 {
     least(n, least(characters.len(), looks.len()))
 }
 
 // The shown cells among the first n, as far as both arrays go.
-pub fn shown_range(characters: &[u16], looks: &[u16], n: usize) -> Shown
+pub fn shown_range(characters: &[u32], looks: &[u16], n: usize) -> Shown
     ensures { λ r. ⌜ r ≡ shownRange (cellsAt (now (characters .entry)) (now (looks .entry)) 0 (cut (now (characters .entry)) (now (looks .entry)) n)) ⌝ }
 {
     let n = cut_to(characters, looks, n);
@@ -79,7 +79,7 @@ pub fn shown_range(characters: &[u16], looks: &[u16], n: usize) -> Shown
 }
 
 // A cell of the look that the foreground came from joins and changes nothing; most are such.
-fn span_from(characters: &[u16], looks: &[u16], start: usize, end: usize) -> SpanRead
+fn span_from(characters: &[u32], looks: &[u16], start: usize, end: usize) -> SpanRead
     requires { ⌜ (start < end) × (end ≤ length (now characters)) × (end ≤ length (now looks)) ⌝ }
     ensures { λ r. ⌜ r ≡ spanAt start (cellsTo (now (characters .entry)) (now (looks .entry)) start end) ⌝ }
 {
@@ -108,7 +108,7 @@ fn span_from(characters: &[u16], looks: &[u16], start: usize, end: usize) -> Spa
 
 // The first span of the cells from start up to end, as far as both arrays go. Where there are none it is empty, white on
 // black.
-pub fn span_at(characters: &[u16], looks: &[u16], start: usize, end: usize) -> SpanRead
+pub fn span_at(characters: &[u32], looks: &[u16], start: usize, end: usize) -> SpanRead
     ensures { λ r. ⌜ r ≡ spanAt start (cellsTo (now (characters .entry)) (now (looks .entry)) start (cut (now (characters .entry)) (now (looks .entry)) end)) ⌝ }
 {
     let end = cut_to(characters, looks, end);

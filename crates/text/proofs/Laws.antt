@@ -6,12 +6,16 @@ use mathlib.Core.Path.{_≡_, refl, sym, ap, _∙_}
 use mathlib.Core.Bool.{Bool, true}
 use mathlib.Core.List.{List, [], _∷_, _++_, append-nil, flatMap}
 use lib.ListN.{length, set, replicate, length-append, length-set}
-use Rattle.meaning.specs.Document.{Piece, writePiece, looksOf}
+use Rattle.meaning.specs.declared.Glyph.{Glyph}
+use Rattle.meaning.specs.Glyphs.{spelling}
+use Rattle.meaning.specs.Document.{Piece, escaped, writePiece, looksOf}
 use Rattle.meaning.specs.Document.Piece.{br}
 use Rattle.meaning.proofs.ListLaws.{join-append}
 use Rattle.laws.proofs.FewestInAll.{looks-append}
 use Rattle.output.specs.Output.{past, Wrote}
-use Rattle.output.proofs.Laws.{_⨟_, wrote-length, wrote-nothing, wrote-here}
+use borrow.Author.Tests.{eq-eqb, ne-eqb}
+use Rattle.output.proofs.Laws.{_⨟_, wrote-as, wrote-length, wrote-nothing, wrote-here}
+use Rattle.cells.specs.Arrays.{unpacked, packedPoints}
 use Rattle.text.specs.declared.Tally.{Tally}
 use Rattle.text.specs.Laid.{markedWith, Laid, PiecesLaid}
 
@@ -86,6 +90,23 @@ pub then-breaks :
     → Wrote b1 (r .at) (flatMap writePiece (replicate n br)) b2 p
     → PiecesLaid buf on t (ps ++ replicate n br) b2 on′ (record { at = p; spans = r .spans })
 then-breaks ps n l w = rw (join-append writePiece ps (replicate n br), no-looks ps n) (then-wrote l w)
+
+-- the code points of a packed character: one, or with its mark two
+module _ (n : ℕ) {g : Glyph} (e : g ≡ unpacked n) {buf b1 : List ℕ} {at p : ℕ} (w : Wrote buf at (escaped (g .point)) b1 p) where
+  pub character-bare : g .mark ≡ 0 → Wrote buf at (flatMap escaped (packedPoints n)) b1 p
+  unfolding packedPoints spelling flatMap
+  character-bare z = rw (← e, eq-eqb (g .mark) 0 z) (wrote-as (append-nil (escaped (g .point))) w)
+
+  pub character-marked : (g .mark ≡ 0 → ⊥) → {b2 : List ℕ} {q : ℕ} → Wrote b1 p (escaped (g .mark)) b2 q → Wrote buf at (flatMap escaped (packedPoints n)) b2 q
+  unfolding packedPoints spelling flatMap
+  character-marked z v = rw (← e, ne-eqb (g .mark) 0 z) (w ⨟ wrote-as (append-nil (escaped (g .mark))) v)
+
+-- the code points of one more character
+pub character-more : (cs : List ℕ) (c : ℕ) {buf b1 b2 : List ℕ} {at p q : ℕ} → Wrote buf at (flatMap escaped (flatMap packedPoints cs)) b1 p
+    → Wrote b1 p (flatMap escaped (packedPoints c)) b2 q → Wrote buf at (flatMap escaped (flatMap packedPoints (cs ++ c ∷ []))) b2 q
+unfolding flatMap
+character-more cs c w v =
+    rw (join-append packedPoints cs (c ∷ []), append-nil (packedPoints c), join-append escaped (flatMap packedPoints cs) (packedPoints c)) (w ⨟ v)
 
 -- whoever lays rest from s on, over out, has laid whole from t on, over buf
 pub record LaidLeft (buf : List ℕ) (on : List Bool) (t : Tally) (whole : List Piece) (out : List ℕ) (marks : List Bool) (s : Tally) (rest : List Piece) : Type 0 where

@@ -5,7 +5,7 @@ use native.Mathlib.Omega.{arith}
 use mathlib.Core.Path.{_≡_, sym, ap, subst, _∙_}
 use Rattle.meaning.specs.Rows.{rowLimit}
 use mathlib.Core.Bool.{Bool}
-use mathlib.Core.List.{List, [], _∷_, map}
+use mathlib.Core.List.{List, [], _∷_, map, flatMap}
 use lib.ListN.{length, take, drop}
 use lib.Seq.{take-all, take-length}
 use Rattle.meaning.specs.Looks.{unpack}
@@ -15,7 +15,7 @@ use Rattle.meaning.specs.Document.Piece.{span}
 use Rattle.meaning.specs.Conversion.{spanOf, rowSpans}
 use Rattle.meaning.proofs.Logic.{by-le}
 use Rattle.cells.specs.declared.RowRead.{RowRead}
-use Rattle.cells.specs.Arrays.{cellsAt}
+use Rattle.cells.specs.Arrays.{packedPoints, cellsAt}
 use Rattle.cells.specs.Decoded.{rowAt, Decoded}
 use Rattle.cells.proofs.Laws.{decoded-cells, decoded-lengths, decoded-look}
 use Rattle.spans.specs.declared.Shown.{Shown}
@@ -59,7 +59,7 @@ module _ (characters looks : List ℕ) (n : ℕ) where
         {s : SpanRead} → s ≡ spanAt i (cellsTo characters looks i (cut characters looks end)) → i < end
         → (i < s .end) × (s .end ≤ end)
         × (map spanOf (spans (cellsTo characters looks i end))
-        ≡ record { look = s .look; characters = take (s .end - i) (drop i characters) } ∷ map spanOf (spans (cellsTo characters looks (s .end) end)))
+        ≡ record { look = s .look; characters = flatMap packedPoints (take (s .end - i) (drop i characters)) } ∷ map spanOf (spans (cellsTo characters looks (s .end) end)))
     span-here e h = first-span characters looks i end (rw uncut at e) h (l .short)
 
     pub span-bounds : {s : SpanRead} → s ≡ spanAt i (cellsTo characters looks i (cut characters looks end)) → i < end → (i < s .end) × (s .end ≤ end) × (s .end ≤ length characters)
@@ -69,14 +69,14 @@ module _ (characters looks : List ℕ) (n : ℕ) where
 
     pub spans-less :
         {s : SpanRead} {out′ : List ℕ} {marks′ : List Bool} {r′ : Tally} → s ≡ spanAt i (cellsTo characters looks i (cut characters looks end)) → i < end
-        → PiecesLaid out marks r (span (record { look = s .look; characters = take (s .end - i) (drop i characters) }) ∷ []) out′ marks′ r′
+        → PiecesLaid out marks r (span (record { look = s .look; characters = flatMap packedPoints (take (s .end - i) (drop i characters)) }) ∷ []) out′ marks′ r′
         → SpansLeft buf on t end out′ marks′ r′ (s .end)
     spans-less {s} f h p =
         record {
           short = l .short;
           both = l .both;
           left =
-              left-less (span (record { look = s .look; characters = take (s .end - i) (drop i characters) }) ∷ []) (from (s .end) end)
+              left-less (span (record { look = s .look; characters = flatMap packedPoints (take (s .end - i) (drop i characters)) }) ∷ []) (from (s .end) end)
               (rw (span-here f h .2) at (l .left)) p;
         }
 

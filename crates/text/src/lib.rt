@@ -7,7 +7,7 @@ ghost use lib.ListN.{length, take, drop, replicate};
 ghost use Rattle.meaning.specs.Document.{escaped, writePiece};
 ghost use Rattle.meaning.specs.Document.Piece.{span, br};
 ghost use Rattle.meaning.specs.Conversion.{rowSpans, fillers};
-ghost use Rattle.cells.specs.Arrays.{cellsAt};
+ghost use Rattle.cells.specs.Arrays.{packedPoints, cellsAt};
 ghost use Rattle.spans.specs.Ranges.{cut};
 ghost use Rattle.output.specs.Output.{Wrote};
 ghost use Rattle.text.specs.Laid.{PiecesLaid, RowDone, RowsDone, contentOf};
@@ -23,13 +23,25 @@ pub struct Tally {
     pub spans: usize,
 }
 
-fn put_characters(out: &mut [u8], at: usize, characters: &[u16]) -> usize
-    ensures { λ r. ⌜ Wrote (now (out .entry)) at (flatMap escaped (now (characters .entry))) (now (out .exit)) r ⌝ }
+// The code points of a packed character.
+fn put_character(out: &mut [u8], at: usize, character: u32) -> usize
+    ensures { λ r. ⌜ Wrote (now (out .entry)) at (flatMap escaped (packedPoints character)) (now (out .exit)) r ⌝ }
+{
+    let glyph = cells::unpacked(character);
+    let p = xml::put_escaped(out, at, glyph.point);
+    if glyph.mark == 0 {
+        return p;
+    }
+    xml::put_escaped(out, p, glyph.mark)
+}
+
+fn put_characters(out: &mut [u8], at: usize, characters: &[u32]) -> usize
+    ensures { λ r. ⌜ Wrote (now (out .entry)) at (flatMap escaped (flatMap packedPoints (now (characters .entry)))) (now (out .exit)) r ⌝ }
 {
     let mut p = at;
     let mut i = 0;
     while i < characters.len() {
-        p = xml::put_escaped(out, p, characters[i]);
+        p = put_character(out, p, characters[i]);
         i += 1;
     }
     p
@@ -41,13 +53,13 @@ fn put_span(
     out: &mut [u8],
     marks: &mut [bool],
     t: Tally,
-    characters: &[u16],
+    characters: &[u32],
     from: usize,
     to: usize,
     look: u16,
 ) -> Tally
     requires { ⌜ (from ≤ to) × (to ≤ length (now characters)) ⌝ }
-    ensures { λ r. ⌜ PiecesLaid (now (out .entry)) (now (marks .entry)) t (span (record { look = look; characters = take (to - from) (drop from (now (characters .entry))) }) ∷ []) (now (out .exit)) (now (marks .exit)) r ⌝ }
+    ensures { λ r. ⌜ PiecesLaid (now (out .entry)) (now (marks .entry)) t (span (record { look = look; characters = flatMap packedPoints (take (to - from) (drop from (now (characters .entry)))) }) ∷ []) (now (out .exit)) (now (marks .exit)) r ⌝ }
 {
     let p = output::put(out, t.at, b"<tt:span style=\"");
     let p = styles::put_style_name(out, p, look);
@@ -99,7 +111,7 @@ fn put_row(
     out: &mut [u8],
     marks: &mut [bool],
     t: Tally,
-    characters: &[u16],
+    characters: &[u32],
     looks: &[u16],
     n: usize,
 ) -> Tally
@@ -135,7 +147,7 @@ fn lay_row(
 ) -> RowLaid
     ensures { λ r. ⌜ RowDone (now (text .entry)) start before (now (out .entry)) (now (marks .entry)) t (now (out .exit)) (now (marks .exit)) r ⌝ }
 {
-    let mut characters = [0u16; ROW_LIMIT];
+    let mut characters = [0u32; ROW_LIMIT];
     let mut looks = [0u16; ROW_LIMIT];
     let row = cells::decode_row(text, start, before, &mut characters, &mut looks);
     let tally = put_row(out, marks, t, &characters, &looks, row.cells);

@@ -4,19 +4,21 @@ use Prim.Native.Nat.{_-_}
 use mathlib.Core.Path.{sym}
 use lib.ListN.{replicate, length-replicate, getD-replicate}
 use borrow.Author.Needs.{needs}
-use Rattle.meaning.specs.Cells.{blank}
+use Rattle.meaning.specs.Glyphs.{space}
+use Rattle.cells.specs.Arrays.{packed}
 use Rattle.output.proofs.Storing.{Storing, storing-all, storing-more, storing-done}
 use Rattle.cells.proofs.put_blanks.Statement.{statement}
 use Rattle.cells.proofs.put_blanks.Tie as tie
 
 abbrev Inv-loop : tie.InvT-loop
 Inv-loop characters₀ looks₀ k n look j₀ characters looks j =
-    Storing characters₀ k (replicate n blank) characters j × Storing looks₀ k (replicate n look) looks j
+    Storing characters₀ k (replicate n (packed space)) characters j × Storing looks₀ k (replicate n look) looks j
 
 abbrev μ-loop : tie.MeasureT-loop
 μ-loop characters₀ looks₀ k n look j₀ characters looks j = n - j
 
 loop-again : tie.Need-loop-again Inv-loop μ-loop
+unfolding packed
 loop-again c =
     let l = c .before .loop in
     let t = c .loop-test .taken in (

@@ -3,7 +3,9 @@
 -- Assumes nothing.
 use native.Mathlib.Omega.{arith}
 use borrow.Author.Needs.{needs}
-use mathlib.Core.Path.{sym, _∙_}
+use mathlib.Core.Path.{sym, ap, _∙_}
+use Rattle.meaning.specs.declared.Token.the-variants.{Character}
+use Rattle.meaning.specs.Glyphs.{single}
 use Rattle.meaning.specs.Codes.{codeToken, isControl, isSwitch, characterOf}
 use Rattle.meaning.specs.Characters.{latin}
 use Rattle.meaning.specs.Tables.{latinTable}
@@ -12,7 +14,7 @@ use Rattle.charset.proofs.low_token.Statement.{statement}
 use Rattle.charset.proofs.low_token.Tie as tie
 
 returns : tie.Need-returns
-returns c = sym (plain-token _ (sym (c .before .is-plain .ensures) ∙ c .if1 .taken))
+returns c = ap Character (c .single .ensures) ∙ sym (plain-token _ (sym (c .before .before .is-plain .ensures) ∙ c .before .if1 .taken))
 
 returns-2 : tie.Need-returns-2
 returns-2 c = sym (control-token _ (sym (c .before .is-control .ensures) ∙ c .if2 .taken))
@@ -21,8 +23,8 @@ returns-3 : tie.Need-returns-3
 returns-3 c = sym (switch-token _ (sym (c .before .is-switch .ensures) ∙ c .if3 .taken))
 
 returns-4 : tie.Need-returns-4
-unfolding codeToken isControl isSwitch characterOf latin latinTable
-returns-4 c = rw (c .match .keys1)
+unfolding codeToken isControl isSwitch characterOf single latin latinTable
+returns-4 c = rw (c .single2 .ensures, c .before .match .keys1)
 
 returns-5 : tie.Need-returns-5
 unfolding codeToken
@@ -41,4 +43,4 @@ returns-6 c =
     (c .match .rest .1))
 
 pub low-token-spec : {M : Type 1} → statement M
-low-token-spec = tie.close (tie.spec (λ c κs. search needs) returns (λ c κs. search needs) returns-2 (λ c κs. search needs) returns-3 returns-4 returns-5 returns-6)
+low-token-spec = tie.close (tie.spec (λ c κs. search needs) (λ c κs. search needs) returns (λ c κs. search needs) returns-2 (λ c κs. search needs) returns-3 (λ c κs. search needs) returns-4 returns-5 returns-6)

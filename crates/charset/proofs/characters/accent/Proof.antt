@@ -1,28 +1,27 @@
--- `accent` gives the number of an accent: 0 before C0h, and after the last entry of the table.
+-- `accent` gives the number of an accent: its tests are those of the numbers by ranges.
 -- Assumes nothing.
-use Prim.Native.Nat.{_-_, _≤_}
 use native.Mathlib.Omega.{arith}
-use mathlib.Core.Path.{sym}
-use lib.ListN.{length, List·getD-eq-default}
-use borrow.Author.Needs.{needs}
-use borrow.Author.Tests.{lt-leb, le-leb}
-use Rattle.meaning.specs.Characters.{accents, accent}
+use Rattle.meaning.proofs.Logic.{between}
+use Rattle.charset.proofs.Codes.{accent-ranged}
 use Rattle.charset.proofs.characters.accent.Statement.{statement}
 use Rattle.charset.proofs.characters.accent.Tie as tie
 
 returns : tie.Need-returns
-unfolding accent
-returns c = rw (lt-leb 192 _ (c .if1 .taken), accent)
+returns c = rw (accent-ranged _, c .if1 .taken)
 
 returns-2 : tie.Need-returns-2
-unfolding accent accents
-returns-2 c = rw (le-leb 192 _ (c .before .if1 .left), accent)
+returns-2 c = rw (accent-ranged _, c .before .if1 .left, c .if2 .taken)
 
 returns-3 : tie.Need-returns-3
-unfolding accent accents
-returns-3 c =
-    let past : length accents ≤ c .before .before .args .c - 192 = omega arith in
-    rw (le-leb 192 _ (c .before .if1 .left), accent) (sym (List·getD-eq-default accents 0 past))
+returns-3 c = rw (accent-ranged _, c .before .before .if1 .left, c .before .if2 .left, c .if3 .taken)
+
+returns-4 : tie.Need-returns-4
+returns-4 c = rw (accent-ranged _, c .before .before .if1 .left, c .before .if2 .left, c .if3 .left)
 
 pub accent-spec : {M : Type 1} → statement M
-accent-spec = tie.close (tie.spec returns (λ c. search needs) (λ c. search needs) returns-2 returns-3)
+accent-spec =
+    tie.close (tie.spec
+    (λ c. omega (arith, between 193 200 (c .before .args .c) (c .if1 .taken))) returns
+    (λ c. omega (arith, between 202 203 (c .before .before .args .c) (c .if2 .taken))) returns-2
+    (λ c. omega (arith, between 205 207 (c .before .before .before .args .c) (c .if3 .taken))) returns-3
+    returns-4)
