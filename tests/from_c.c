@@ -89,15 +89,17 @@ static size_t read_file(const char *name)
     return length;
 }
 
-/* Byte i of a text of 23 rows of 64 cells, all accent pairs but for the colours; 8Fh after it. */
+/* Byte i of a text of 23 rows of 64 cells, all accent pairs but for the colours: a composed letter, a letter and a mark,
+   a space and a mark in turn; 8Fh after it. */
 static uint8_t text_byte(int i)
 {
+    static const uint8_t letters[] = {'e', 'q', ' '};
     int row = i / 126, column = i % 126;
     if (row >= 23 || (row == 22 && column == 125))
         return 0x8F;
     if (column == 125)
         return 0x8A;
-    return column == 0 ? 0x01 : column == 1 ? 0x1D : column == 2 ? 0x03 : column % 2 ? 0xC2 : 'e';
+    return column == 0 ? 0x01 : column == 1 ? 0x1D : column == 2 ? 0x03 : column % 2 ? 0xC2 : letters[column / 2 % 3];
 }
 
 /* Sets of as many blocks as a set can have, with as many cells as a subtitle can have. */

@@ -10,8 +10,8 @@ use borrow.Author.Tests.{lt-ltb, le-ltb, le-leb, lt-leb, ne-eqb, eqb-true, eqb-f
 use Rattle.meaning.specs.declared.Glyph.{Glyph}
 use Rattle.meaning.specs.declared.Token.the-variants.{Character, Control, Switch, Unlisted}
 use Rattle.meaning.specs.Tables.{latinTable, composedTable}
-use Rattle.meaning.specs.Characters.{latin, accents, accent, composed}
-use Rattle.meaning.specs.Glyphs.{single}
+use Rattle.meaning.specs.Characters.{latin, accents, accent, composed, markOf}
+use Rattle.meaning.specs.Glyphs.{marks, single}
 use Rattle.meaning.specs.Codes.{isControl, isSwitch, characterOf, codeToken}
 use Rattle.meaning.proofs.Logic.{by-test, by-le, false-not-true, and-parts, between}
 use Rattle.charset.specs.Plain.{isPlain, plainToken}
@@ -113,6 +113,11 @@ unfolding composed
 composed-at zero l h k = absurd (omega arith)
 composed-at (suc a) zero h k = absurd (omega arith)
 composed-at (suc a) (suc l) h k = let e : 52 * (suc a - 1) + (suc l - 1) ≡ 52 * a + l = omega arith in rw e
+
+pub mark-at : (a : ℕ) → 0 < a → markOf a ≡ getD marks (a - 1) 0
+unfolding markOf
+mark-at zero h = absurd (omega arith)
+mark-at (suc a) h = let e : suc a - 1 ≡ a = omega arith in rw e
 
 -- the numbers of the accents, by ranges of codes
 abbrev accentByRange : ℕ → ℕ

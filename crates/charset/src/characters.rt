@@ -2,10 +2,27 @@
 ghost use mathlib.Core.Path.{_≡_};
 ghost use Prim.Native.Nat.{_≤_};
 ghost use Rattle.meaning.specs.Glyphs.{single};
-ghost use Rattle.meaning.specs.Characters.{latin, accent, letter, composed};
+ghost use Rattle.meaning.specs.Characters.{latin, accent, letter, composed, markOf, base, accented};
 use crate::composed_table;
 use crate::latin_table;
 use meaning::Glyph;
+
+// The mark of each accent, by its number from 1.
+const MARKS: [u16; 13] = [
+    768,
+    769,
+    770,
+    771,
+    772,
+    774,
+    775,
+    776,
+    778,
+    807,
+    779,
+    808,
+    780,
+];
 
 // A character of one code point.
 pub(crate) fn single(point: u16) -> Glyph
@@ -69,9 +86,41 @@ fn composed(a: u8, l: u8) -> u16
     composed_table::entry(row, column)
 }
 
-// The code point of an accent with the letter after it.
-pub(crate) fn pair(a: u8, c: u8) -> u16
-    ensures { λ r. ⌜ r ≡ composed (accent a) (letter c) ⌝ }
+// The mark of an accent, by its number; 0 for none.
+fn mark_of(a: u8) -> u16
+    ensures { λ r. ⌜ r ≡ markOf a ⌝ }
 {
-    composed(accent(a), letter(c))
+    if a == 0 {
+        return 0;
+    }
+    let k = (a - 1) as usize;
+    if k < 13 { MARKS[k] } else { 0 }
+}
+
+// What a mark stands on where there is no composed letter: the letter, U+00A0 for 20h.
+fn base(c: u8) -> u16
+    ensures { λ r. ⌜ r ≡ base c ⌝ }
+{
+    if c == 32 {
+        return 160;
+    }
+    if letter(c) == 0 {
+        return 0;
+    }
+    c as u16
+}
+
+// The character of an accent with the code after it; its code point is 0 for none.
+pub(crate) fn pair(a: u8, c: u8) -> Glyph
+    ensures { λ r. ⌜ r ≡ accented (accent a) c ⌝ }
+{
+    let number = accent(a);
+    let point = composed(number, letter(c));
+    if point == 0 {
+        return Glyph {
+            point: base(c),
+            mark: mark_of(number),
+        };
+    }
+    single(point)
 }

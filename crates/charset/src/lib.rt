@@ -86,7 +86,7 @@ fn code_token(c: u8) -> Token
 fn pair_token(a: u8, c: u8) -> Token
     ensures { λ r. ⌜ r ≡ pairToken a c ⌝ }
 {
-    character_of(characters::single(characters::pair(a, c)))
+    character_of(characters::pair(a, c))
 }
 
 // An accent is read with the code after it, where there is one.

@@ -12,7 +12,7 @@ use Rattle.meaning.specs.declared.Token.{Token}
 use Rattle.meaning.specs.declared.Token.the-variants.{Character, Control, Switch, RowEnd, Unlisted}
 use Rattle.meaning.specs.declared.Look.{Look}
 use Rattle.meaning.specs.Lists.{all}
-use Rattle.meaning.specs.Characters.{accent, letter}
+use Rattle.meaning.specs.Characters.{accent}
 use Rattle.meaning.specs.Glyphs.{spelling}
 use Rattle.meaning.specs.Codes.{isControl, isSwitch, characterOf, codeToken, pairToken, isAccent, tokens, takesCell}
 use Rattle.meaning.specs.Rows.{breaksPaired, rows}
@@ -24,7 +24,7 @@ use Rattle.meaning.proofs.ListLaws.All.{nil, cons}
 use Rattle.meaning.proofs.LookLaws.{ThreeBits, white-bits, start-bits, blend-bits}
 use Rattle.meaning.proofs.RowLaws.{rows-tested}
 use Rattle.meaning.proofs.Tokens.{tokens-pair, tokens-code}
-use Rattle.laws.proofs.Spelling.{isSpelled, Spelled, space-spelled, latin-spelled, composed-spelled}
+use Rattle.laws.proofs.Spelling.{isSpelled, Spelled, space-spelled, latin-spelled, accented-spelled}
 
 -- a property `Of` of every cell of a text whose tokens pass a test: `Within` holds of the looks in a row, for each token keeps it;
 -- `Before` is all that the start of a row needs of the look before it, and the looks in a row have it
@@ -88,7 +88,7 @@ code-writable c =
 
 pair-writable : (a c : ℕ) → Writable (pairToken a c)
 unfolding pairToken
-pair-writable a c = character-writable _ (composed-spelled (accent a) (letter c))
+pair-writable a c = character-writable _ (accented-spelled (accent a) c)
 
 tokens-writable : (cs : List ℕ) → All Writable (tokens cs)
 tokens-writable [] = unfold tokens in nil

@@ -1,6 +1,6 @@
 -- The rule of the composed letters, by one computed test, and that each row is that of its mark.
 -- Assumes nothing.
-use Prim.Native.Nat.{ℕ, zero, suc, _-_, _<_, _≤_}
+use Prim.Native.Nat.{ℕ, zero, suc, _<_, _≤_}
 use native.Mathlib.Omega.{arith}
 use native.Mathlib.Nat.{le-of-suc-le-suc, not-suc-le-zero}
 use mathlib.Core.Path.{_≡_, refl}
@@ -12,7 +12,8 @@ use lib.ListN.{length, getD}
 use borrow.Author.Tests.{eq-eqb, eqb-true}
 use Rattle.meaning.specs.Lists.{all}
 use Rattle.meaning.specs.Tables.{composedTable}
-use Rattle.meaning.specs.Characters.{accents, marks, accent, letter, composed}
+use Rattle.meaning.specs.Glyphs.{marks}
+use Rattle.meaning.specs.Characters.{accents, accent, letter, composed, markOf}
 use Rattle.laws.specs.Letters.{LettersRule}
 use Rattle.meaning.proofs.Logic.{and-parts, or-parts, not-both, between}
 use Rattle.meaning.proofs.ListLaws.{test-at}
@@ -79,8 +80,8 @@ samples =
     ∷ []
 
 isSample : ℕ × ℕ × ℕ × ℕ → Bool
-isSample s = eqb (getD marks (accent (s .0) - 1) 0) (s .1) && eqb (composed (accent (s .0)) (letter (s .2))) (s .3)
+isSample s = eqb (markOf (accent (s .0))) (s .1) && eqb (composed (accent (s .0)) (letter (s .2))) (s .3)
 
 marks-right : T (all isSample samples)
-unfolding all samples isSample marks accents accent letter composed composedTable
+unfolding all samples isSample marks markOf accents accent letter composed composedTable
 marks-right = tt

@@ -28,7 +28,7 @@ use Rattle.meaning.proofs.RefusalLaws.{Holds, times-numbered, unbroken, unbroke
 use Rattle.meaning.proofs.ListLaws.All.{nil, cons}
 use Rattle.laws.proofs.Pieces.{fillersOf, pieces-are}
 use Rattle.laws.proofs.Trimming.{all-shown}
-use Rattle.laws.proofs.Spelling.{points-scalar}
+use Rattle.laws.proofs.Spelling.{points-scalar, marks-stand}
 use Rattle.laws.proofs.CellFacts.{Sound, characters-spelled, points-of, rows-sound, spans-all, span-bits}
 use Rattle.meaning.proofs.LookLaws.{pack-small}
 use Rattle.laws.proofs.OwnRows.{SoundRows}
@@ -62,7 +62,12 @@ InProfile p = pieceInProfile p ≡ true
 
 span-right : (g : List Cell) → All Sound g → InProfile (span (spanOf g))
 unfolding pieceInProfile spanOf
-span-right g h = and-true _ _ (lt-ltb (pack (lookOf g)) lookCount (pack-small (lookOf g) (span-bits g h))) (rw (points-of g) (test-all isScalar (points-scalar (characters-spelled h))))
+span-right g h =
+    let k = characters-spelled h in
+    rw (points-of g)
+    (and-true _ _
+    (and-true _ _ (lt-ltb (pack (lookOf g)) lookCount (pack-small (lookOf g) (span-bits g h))) (test-all isScalar (points-scalar k)))
+    (marks-stand false k))
 
 row-right : (row : List Cell) → All Sound row → All InProfile (map span (rowSpans row))
 unfolding rowSpans

@@ -1,6 +1,6 @@
 -- The P cases of document 01, "Both sides of each line", and cases of document 02: one table, one statement, computed.
 -- Assumes nothing.
-use Prim.Native.Nat.{ℕ}
+use Prim.Native.Nat.{ℕ, zero, suc}
 use Prim.Native.String.{String}
 use mathlib.Core.Bool.{Bool, true, false, _&&_}
 use mathlib.Core.List.{List, [], _∷_, _++_, map, flatMap}
@@ -17,23 +17,23 @@ use Rattle.meaning.specs.Conversion.{paragraphOf, answer}
 use Rattle.meaning.proofs.Computed.{computed}
 use Rattle.meaning.proofs.Files.{gsi, gsiWith, block, subtitle, blocksOf, fileOf, oneOf, files}
 
--- a break mode and a file, the answer's number and place, and what stands in each paragraph
+-- a break mode and a file, the answer's number and place, and the code points of what stands in each paragraph
 record Case : Type 0 where
   mode : ℕ
   file : List ℕ
   number : ℕ
   place : ℕ
-  paragraphs : List String
+  paragraphs : List (List ℕ)
 
 paragraphsIn : Format → Outcome (List Subtitle) → List (List ℕ)
 paragraphsIn f (refused r) = []
 paragraphsIn f (accepted p) = map (λ (q : Paragraph). flatMap writePiece (q .pieces)) (map (paragraphOf f) (p .gathered))
 
-sameTexts : List (List ℕ) → List String → Bool
+sameTexts : List (List ℕ) → List (List ℕ) → Bool
 sameTexts [] [] = true
 sameTexts [] (t ∷ ts) = false
 sameTexts (s ∷ ss) [] = false
-sameTexts (s ∷ ss) (t ∷ ts) = elim (same s (flatMap utf8 (bytes t))) [ true ↦ sameTexts ss ts | false ↦ false ]
+sameTexts (s ∷ ss) (t ∷ ts) = elim (same s (flatMap utf8 t)) [ true ↦ sameTexts ss ts | false ↦ false ]
 
 sameAnswer : Answer → ℕ → ℕ → Bool
 sameAnswer a number place = eqb (a .number) number && eqb (a .place) place
@@ -47,7 +47,14 @@ refuses : ℕ → List ℕ → ℕ → ℕ → Case
 refuses mode file number place = record { mode = mode; file = file; number = number; place = place; paragraphs = [] }
 
 accepts : ℕ → List ℕ → List String → Case
-accepts mode file paragraphs = record { mode = mode; file = file; number = 0; place = 0; paragraphs = paragraphs }
+accepts mode file paragraphs = record { mode = mode; file = file; number = 0; place = 0; paragraphs = map bytes paragraphs }
+
+-- one paragraph, by its code points; and one that is a span in white on black
+reads : List ℕ → List ℕ → Case
+reads file points = record { mode = 1; file = file; number = 0; place = 0; paragraphs = points ∷ [] }
+
+spells : List ℕ → List ℕ → Case
+spells file points = reads file (bytes "<tt:span style=\"s007\">" ++ points ++ bytes "</tt:span>")
 
 -- a file of one subtitle
 one : ℕ → List ℕ → List ℕ
@@ -83,8 +90,8 @@ paper =
     -- C2h last in block 00h, after 112 bytes and before 8Fh; 65h first in block FFh
     ∷ accepts 1 (two 22 full (101 ∷ [])) ("<tt:br/><tt:span style=\"s007\">é</tt:span>" ∷ [])
     ∷ accepts 1 (two 23 (194 ∷ []) (101 ∷ [])) ("<tt:span style=\"s007\">é</tt:span>" ∷ [])
-    -- C2h, 20h
-    ∷ refuses 1 (one 23 (194 ∷ 32 ∷ [])) 13 0
+    -- C2h, 20h: one cell since document 02, request 4
+    ∷ spells (one 23 (194 ∷ 32 ∷ [])) (160 ∷ 769 ∷ [])
     -- 64 cells and 65
     ∷ accepts 1 (one 23 (replicate 63 32 ++ (65 ∷ []))) ("<tt:span style=\"s007\">A</tt:span>" ∷ [])
     ∷ refuses 1 (one 23 (replicate 64 32 ++ (65 ∷ []))) 15 0
@@ -175,6 +182,60 @@ request2 =
     ∷ refuses 1 (film 10 (11 ∷ 65 ∷ [])) 13 0
     ∷ []
 
-right : T (all holds (paper ++ request1 ++ request2))
-unfolding computed files paragraphsIn sameTexts sameAnswer holds refuses accepts one two full film paper request1 request2
+-- one list again and again
+times : ℕ → List ℕ → List ℕ
+times zero xs = []
+times (suc n) xs = xs ++ times n xs
+
+-- C2h, 20h, and what it stands for
+accentSpace : List ℕ
+accentSpace = 194 ∷ 32 ∷ []
+
+markedSpace : List ℕ
+markedSpace = 160 ∷ 769 ∷ []
+
+-- document 02, request 4
+request4 : List Case
+request4 =
+    -- Q, which no accent is composed with, under each of the thirteen
+    spells
+    (one 23 (flatMap (λ (a : ℕ). a ∷ 81 ∷ []) (193 ∷ 194 ∷ 195 ∷ 196 ∷ 197 ∷ 198 ∷ 199 ∷ 200 ∷ 202 ∷ 203 ∷ 205 ∷ 206 ∷ 207 ∷ [])))
+    (flatMap (λ (m : ℕ). 81 ∷ m ∷ []) (768 ∷ 769 ∷ 770 ∷ 771 ∷ 772 ∷ 774 ∷ 775 ∷ 776 ∷ 778 ∷ 807 ∷ 779 ∷ 808 ∷ 780 ∷ []))
+    -- C2h, 58h; a small letter; over two blocks
+    ∷ spells (one 23 (194 ∷ 88 ∷ [])) (88 ∷ 769 ∷ [])
+    ∷ spells (one 23 (194 ∷ 113 ∷ [])) (113 ∷ 769 ∷ [])
+    ∷ spells (two 23 (194 ∷ []) (88 ∷ [])) (88 ∷ 769 ∷ [])
+    ∷ spells (two 23 (194 ∷ []) (32 ∷ [])) markedSpace
+    -- an accent before 20h at both ends of a row; in a colour of its own
+    ∷ spells (one 23 (32 ∷ 194 ∷ 32 ∷ 65 ∷ 206 ∷ 32 ∷ 32 ∷ [])) (160 ∷ 769 ∷ 65 ∷ 160 ∷ 808 ∷ [])
+    ∷ reads (one 23 (65 ∷ 1 ∷ 194 ∷ 32 ∷ [])) (bytes "<tt:span style=\"s007\">A </tt:span><tt:span style=\"s001\">" ++ markedSpace ++ bytes "</tt:span>")
+    -- 64 such cells and 65
+    ∷ spells (two 23 (times 56 accentSpace) (times 8 accentSpace)) (times 64 markedSpace)
+    ∷ refuses 1 (two 23 (times 56 accentSpace) (times 9 accentSpace)) 15 0
+    -- an accent before an accent, a row end, A0h, a control, what stands beside the letters, a letter that is not A to Z or a to z
+    ∷ refuses 1 (one 23 (194 ∷ 194 ∷ 65 ∷ [])) 13 0
+    ∷ refuses 1 (one 22 (194 ∷ 138 ∷ 65 ∷ [])) 13 0
+    ∷ refuses 1 (one 23 (194 ∷ 160 ∷ [])) 13 0
+    ∷ refuses 1 (one 23 (194 ∷ 7 ∷ 65 ∷ [])) 13 0
+    ∷ refuses 1 (one 23 (194 ∷ 49 ∷ [])) 13 0
+    ∷ refuses 1 (one 23 (194 ∷ 64 ∷ [])) 13 0
+    ∷ refuses 1 (one 23 (194 ∷ 91 ∷ [])) 13 0
+    ∷ refuses 1 (one 23 (194 ∷ 96 ∷ [])) 13 0
+    ∷ refuses 1 (one 23 (194 ∷ 123 ∷ [])) 13 0
+    ∷ refuses 1 (one 23 (194 ∷ 225 ∷ [])) 13 0
+    -- before nothing, also where a letter stands first in the next set
+    ∷ refuses 1 (one 23 (65 ∷ 194 ∷ [])) 13 0
+    ∷ refuses 1 (fileOf (subtitle 23 (65 ∷ 194 ∷ []) ∷ record { sn = 2; ebn = 255; seconds = 3; frames = 4; vp = 23; cf = 0; text = 101 ∷ [] } ∷ [])) 13 0
+    -- C0h, C9h and CCh are no accents
+    ∷ refuses 1 (one 23 (192 ∷ 32 ∷ [])) 13 0
+    ∷ refuses 1 (one 23 (201 ∷ 88 ∷ [])) 13 0
+    ∷ refuses 1 (one 23 (204 ∷ 88 ∷ [])) 13 0
+    -- a character for rule 14; hidden as any other; in open subtitles
+    ∷ refuses 1 (one 22 (194 ∷ 32 ∷ 13 ∷ 65 ∷ [])) 14 0
+    ∷ spells (one 23 (194 ∷ 88 ∷ 11 ∷ 65 ∷ 10 ∷ 194 ∷ 32 ∷ [])) (65 ∷ [])
+    ∷ spells (film 10 (130 ∷ 131 ∷ 32 ∷ 194 ∷ 32 ∷ 203 ∷ 88 ∷ [])) (160 ∷ 769 ∷ 88 ∷ 807 ∷ [])
+    ∷ []
+
+right : T (all holds (paper ++ request1 ++ request2 ++ request4))
+unfolding computed files paragraphsIn sameTexts sameAnswer holds refuses accepts reads spells one two full film paper request1 request2 times accentSpace markedSpace request4
 right = tt

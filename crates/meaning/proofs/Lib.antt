@@ -2,6 +2,7 @@ pub mod Computed
 pub mod Files
 pub mod Example
 pub mod Cases
+pub mod MarkCases
 pub mod ReasonCases
 pub mod Logic
 pub mod ListLaws

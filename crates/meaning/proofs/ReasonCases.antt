@@ -125,14 +125,15 @@ text : List Case
 text =
     -- 7Fh behind an accent pair; the accent of a pair; an accent before nothing; C9h; a control in an open file, a switch in teletext
     named 1 (one (194 ∷ 101 ∷ 127 ∷ [])) 13 0 1042 127
-    ∷ named 1 (one (65 ∷ 194 ∷ 88 ∷ [])) 13 0 1041 194
+    ∷ named 1 (one (65 ∷ 194 ∷ 160 ∷ [])) 13 0 1041 194
+    ∷ named 1 (one (194 ∷ 88 ∷ 194 ∷ 32 ∷ 206 ∷ 194 ∷ [])) 13 0 1044 206
     ∷ named 1 (one (65 ∷ 194 ∷ [])) 13 0 1041 194
     ∷ named 1 (one (65 ∷ 201 ∷ 65 ∷ [])) 13 0 1041 201
     ∷ named 1 (film (65 ∷ 1 ∷ [])) 13 0 1041 1
     ∷ named 1 (one (65 ∷ 128 ∷ [])) 13 0 1041 128
     -- in the second block, the first cut at 8Fh; a pair over two blocks, with user data between them
     ∷ named 1 (two (65 ∷ []) (66 ∷ 127 ∷ [])) 13 0 1169 127
-    ∷ named 1 (two (65 ∷ 194 ∷ []) (88 ∷ 66 ∷ [])) 13 0 1041 194
+    ∷ named 1 (two (65 ∷ 194 ∷ []) (160 ∷ 66 ∷ [])) 13 0 1041 194
     ∷ named 1 (withUserData (65 ∷ 194 ∷ []) (101 ∷ 127 ∷ [])) 13 0 1425 127
     -- the second set
     ∷ named 1 (fileOf (subtitle 20 [] ∷ record { sn = 2; ebn = 255; seconds = 3; frames = 4; vp = 20; cf = 0; text = 127 ∷ [] } ∷ [])) 13 1 1168 127

@@ -1,4 +1,4 @@
--- A row's cells, and those shown: document 01, "Text to rows"; document 02, requests 1 and 2.
+-- A row's cells, and those shown: document 01, "Text to rows"; document 02, requests 1, 2 and 4.
 -- Assumes nothing.
 use Prim.Native.Nat.{ℕ}
 use mathlib.Core.Bool.{Bool, true, false, cond, not, _&&_, _||_}
@@ -117,7 +117,7 @@ unfoldable pub cellRows : Look → List (List Token) → List (List Cell)
 cellRows l [] = []
 cellRows l (r ∷ rs) = cellsOfRow l r ∷ cellRows (lookAfterRow l r) rs
 
--- a blank is the cell of 20h or of a control, or a hidden one; an underlined space is none
+-- a blank is the cell of 20h or of a control, or a hidden one; an underlined space is none, nor is a space with a mark
 unfoldable pub isBlank : Cell → Bool
 isBlank c = isSpace (c .character) && not (c .look .underline)
 

@@ -1,4 +1,4 @@
--- A text's codes and what they stand for: document 01, "Text to rows"; document 02, requests 1 and 2.
+-- A text's codes and what they stand for: document 01, "Text to rows"; document 02, requests 1, 2 and 4.
 -- Assumes nothing.
 use Prim.Native.Nat.{ℕ}
 use mathlib.Core.Bool.{Bool, true, false, cond, not, _&&_, _||_}
@@ -7,7 +7,7 @@ use lib.Dec.{ltb, leb, eqb}
 use Rattle.meaning.specs.declared.Glyph.{Glyph}
 use Rattle.meaning.specs.declared.Token.{Token}
 use Rattle.meaning.specs.declared.Token.the-variants.{Character, Control, Switch, RowEnd, Unlisted}
-use Rattle.meaning.specs.Characters.{latin, accent, letter, composed}
+use Rattle.meaning.specs.Characters.{latin, accent, accented}
 use Rattle.meaning.specs.Glyphs.{single}
 
 -- 00h to 07h, 0Ah, 0Bh, 0Dh, 1Ch, 1Dh
@@ -36,7 +36,7 @@ codeToken c =
 
 -- an accent and the code after it
 unfoldable pub pairToken : ℕ → ℕ → Token
-pairToken a c = characterOf (single (composed (accent a) (letter c)))
+pairToken a c = characterOf (accented (accent a) c)
 
 unfoldable pub isAccent : ℕ → Bool
 isAccent c = not (eqb (accent c) 0)

@@ -1,8 +1,8 @@
 pub mod Lists
 pub mod Refusals
 pub mod Tables
-pub mod Characters
 pub mod Glyphs
+pub mod Characters
 pub mod Codes
 pub mod Rows
 pub mod TextRules

@@ -1,4 +1,4 @@
--- Documents of the profile, their rows, and when one shows a file's rows: document 01, "The document, whole"; document 02, request 1.
+-- Documents of the profile, their rows, and when one shows a file's rows: document 01, "The document, whole"; document 02, requests 1 and 4.
 -- Assumes nothing.
 use Prim.Native.Nat.{ℕ, suc}
 use mathlib.Core.Path.{_≡_}
@@ -9,7 +9,7 @@ use lib.ListN.{getD}
 use Rattle.meaning.specs.Lists.{all, ontoFirst, bytes}
 use Rattle.meaning.specs.Looks.{lookCount, unpack, shared, free}
 use Rattle.meaning.specs.declared.Glyph.{Glyph}
-use Rattle.meaning.specs.Glyphs.{glyphs}
+use Rattle.meaning.specs.Glyphs.{isMark, glyphs}
 use Rattle.meaning.specs.Cells.{Cell, isBlank, shown}
 use Rattle.meaning.specs.Gsi.{isRate}
 use Rattle.meaning.specs.Blocks.{timesRight}
@@ -21,9 +21,14 @@ use Rattle.meaning.specs.Document.Piece.{span, br}
 unfoldable pub isScalar : ℕ → Bool
 isScalar p = ltb p 55296 || (leb 57344 p && ltb p 1114112)
 
+-- no mark opens a span or follows a mark; `bare` tells that a code point that is no mark stands just before
+unfoldable pub marksStand : Bool → List ℕ → Bool
+marksStand bare [] = true
+marksStand bare (p ∷ ps) = elim (isMark p) [ true ↦ bare && marksStand false ps | false ↦ marksStand true ps ]
+
 -- a span carries one of the s-styles; its characters are divided at will
 unfoldable pub pieceInProfile : Piece → Bool
-pieceInProfile (span s) = ltb (s .look) lookCount && all isScalar (s .characters)
+pieceInProfile (span s) = ltb (s .look) lookCount && all isScalar (s .characters) && marksStand false (s .characters)
 pieceInProfile br = true
 
 -- the ids ascend and are SNs, the times are such that rule 11 holds; `least` is the least id that is allowed

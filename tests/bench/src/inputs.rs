@@ -1,6 +1,6 @@
 //! The files that are converted, made from a fixed seed.
 
-use crate::words::{colourful_row, open_row, plain_row};
+use crate::words::{accented_row, colourful_row, open_row, plain_row, Accents};
 use second::assemble::{file, open_file, time, tti, Tti};
 use second::dice::Dice;
 
@@ -33,6 +33,8 @@ pub fn inputs() -> Vec<Input> {
     vec![
         Input { name: "small file", file: file(25, &film[..5]) },
         Input { name: "feature film", file: file(25, &film) },
+        Input { name: "film, accents", file: file(25, &accented_film(Accents::Composed, 1500)) },
+        Input { name: "film, marks", file: file(25, &accented_film(Accents::Marks, 1500)) },
         Input { name: "colour changes", file: file(25, &colourful(&mut dice, 1500)) },
         Input { name: "open film", file: open_file(25, OPEN_ROWS, &open(&mut Dice::new(SEED), 1500)) },
         Input { name: REFUSED, file: file(25, &with_last_text(film, b"\x7F", b"")) },
@@ -49,7 +51,7 @@ pub fn refused() -> Vec<Input> {
         Input { name: REFUSED, file: film(b"\x7F", b"") },
         // A pair over a block's end, 0Dh after a character, a row past the last
         // line.
-        Input { name: "13 in the last set", file: film(b"\xC2", b"q") },
+        Input { name: "13 in the last set", file: film(b"\xC2", b"1") },
         Input { name: "14 in the last set", file: film(b"", b"A\x0D") },
         Input { name: "15 in the last set", file: film(b"", b"\x8A") },
     ]
@@ -92,6 +94,14 @@ fn longest_set(vp: u8, code: u8, end: &[u8]) -> Vec<Tti> {
 /// Subtitles of two rows in double height, one block each.
 fn film(dice: &mut Dice, subtitles: usize) -> Vec<Tti> {
     (0..subtitles).map(|number| subtitle(number, &[plain_row(dice), plain_row(dice)])).collect()
+}
+
+/// The same with an accent in every word; the letters are the same, whatever
+/// becomes of them with their accents.
+fn accented_film(accents: Accents, subtitles: usize) -> Vec<Tti> {
+    let mut dice = Dice::new(SEED);
+    let mut row = || accented_row(&mut dice, accents);
+    (0..subtitles).map(|number| subtitle(number, &[row(), row()])).collect()
 }
 
 /// The same with a colour code before every word.

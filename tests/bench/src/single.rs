@@ -18,7 +18,7 @@ pub fn run(arguments: &[String]) {
 
 fn write_files(directory: &Path) {
     for input in [inputs(), refused(), longest_refused()].into_iter().flatten() {
-        let name = input.name.replace([' ', ','], "-") + ".stl";
+        let name = input.name.replace(", ", "-").replace([' ', ','], "-") + ".stl";
         std::fs::write(directory.join(name), &input.file).expect("the folder takes the files");
     }
 }

@@ -1,10 +1,12 @@
 //! Compares the proved converter with the second one, and what both say to "Tell
-//! me why": `harness [N] [FIRST]`, N files (200,000) from seed FIRST (0).
+//! me why": `harness [N] [FIRST]`, every accent before every code first, then N
+//! files (200,000) from seed FIRST (0).
 //!
 //! Status 1 if any answer, any byte of a buffer or any reason differs, or if the
 //! files are too much of one kind to say anything.
 
 mod compare;
+mod pairs;
 mod reasons;
 
 use compare::compare;
@@ -29,6 +31,8 @@ fn main() -> ExitCode {
         eprintln!("usage: harness [N] [FIRST]");
         return ExitCode::from(2);
     };
+    let pairs = pairs::compare_all();
+    pairs.print();
     let mut tally = [0u64; 17];
     let mut differences = 0u64;
     let mut first_difference = None;
@@ -46,7 +50,7 @@ fn main() -> ExitCode {
     }
     let broad = files < ENOUGH_TO_JUDGE || is_broad(&tally, files);
     println!("harness: {files} files, {} accepted, {differences} differences", tally[0]);
-    if broad && differences == 0 {
+    if broad && differences == 0 && pairs.differences == 0 {
         ExitCode::SUCCESS
     } else {
         ExitCode::FAILURE

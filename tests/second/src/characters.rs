@@ -1,5 +1,26 @@
 //! Codes and accent pairs to characters.
 
+/// What fills a cell: "The character reading now answers one or two code points",
+/// the second being one of the thirteen marks.
+#[derive(PartialEq, Eq, PartialOrd, Ord, Debug, Clone, Copy)]
+pub struct Character {
+    pub first: char,
+    pub mark: Option<char>,
+}
+
+impl Character {
+    /// 20h: what is U+0020 and nothing else.
+    pub const SPACE: Character = Character::plain(' ');
+
+    pub const fn plain(first: char) -> Character {
+        Character { first, mark: None }
+    }
+
+    pub const fn marked(first: char, mark: char) -> Character {
+        Character { first, mark: Some(mark) }
+    }
+}
+
 /// The Latin table 00 of document 004, Appendix B, codes 20h to 7Eh. The
 /// printed code point of each cell counts, not the scanned glyph. Note 24h.
 #[rustfmt::skip]
@@ -37,9 +58,26 @@ const LATIN_A0H_TO_FFH: [u16; 96] = [
 ];
 
 /// "C1 U+0300, C2 0301, C3 0302, C4 0303, C5 0304, C6 0306, C7 0307, C8 0308,
-/// CA 030A, CB 0327, CD 030B, CE 0328, CF 030C": the codes of the accents, in
-/// the order of the rows of `COMPOSED`. "C9h and CCh are refused."
-const ACCENTS: [u8; 13] = [0xC1, 0xC2, 0xC3, 0xC4, 0xC5, 0xC6, 0xC7, 0xC8, 0xCA, 0xCB, 0xCD, 0xCE, 0xCF];
+/// CA 030A, CB 0327, CD 030B, CE 0328, CF 030C": the codes of the accents and
+/// their marks, in the order of the rows of `COMPOSED`. "C9h and CCh are refused."
+pub const ACCENTS: [(u8, char); 13] = [
+    (0xC1, '\u{0300}'),
+    (0xC2, '\u{0301}'),
+    (0xC3, '\u{0302}'),
+    (0xC4, '\u{0303}'),
+    (0xC5, '\u{0304}'),
+    (0xC6, '\u{0306}'),
+    (0xC7, '\u{0307}'),
+    (0xC8, '\u{0308}'),
+    (0xCA, '\u{030A}'),
+    (0xCB, '\u{0327}'),
+    (0xCD, '\u{030B}'),
+    (0xCE, '\u{0328}'),
+    (0xCF, '\u{030C}'),
+];
+
+/// "An accent before 20h gives U+00A0 and the mark."
+const NO_BREAK_SPACE: char = '\u{00A0}';
 
 /// "The composed letters stand in one table of 13 by 52, 0 where there is
 /// none": a row for each accent, a column for each letter A to Z, a to z.
@@ -178,22 +216,47 @@ pub fn latin(code: u8) -> Option<char> {
     }
 }
 
-/// "C1h to CFh are accents"; C9h and CCh are among them here, although no
-/// letter goes with them.
+/// "C1h to CFh are accents"; C9h and CCh are among them here, although nothing
+/// goes with them.
 pub fn is_accent(code: u8) -> bool {
     (0xC1..=0xCF).contains(&code)
 }
 
-/// "Accent and letter give one cell, the single code point that Unicode's
-/// canonical composition names"; none if there is no such code point, if the
-/// accent is not listed, or if no letter follows.
+/// One of the thirteen combining marks of document 01.
+pub fn is_mark(character: char) -> bool {
+    ACCENTS.iter().any(|&(_, mark)| mark == character)
+}
+
+/// An accent with the code after it: the composed letter; "where no composed
+/// letter exists, the letter followed by the combining mark. An accent before 20h
+/// gives U+00A0 and the mark." None "before what is no letter and no 20h", and
+/// where the accent is not listed.
+pub fn accented(accent: u8, code: u8) -> Option<Character> {
+    if let Some(letter) = composed(accent, code) {
+        return Some(Character::plain(letter));
+    }
+    let first = match code {
+        0x20 => NO_BREAK_SPACE,
+        b'A'..=b'Z' | b'a'..=b'z' => char::from(code),
+        _ => return None,
+    };
+    Some(Character::marked(first, mark_of(accent)?))
+}
+
+fn mark_of(accent: u8) -> Option<char> {
+    ACCENTS.iter().find(|&&(code, _)| code == accent).map(|&(_, mark)| mark)
+}
+
+/// "the single code point that Unicode's canonical composition names"; none if
+/// there is no such code point, if the accent is not listed, or if no letter
+/// follows.
 pub fn composed(accent: u8, letter: u8) -> Option<char> {
-    let row = ACCENTS.iter().position(|&code| code == accent)?;
+    let row = ACCENTS.iter().position(|&(code, _)| code == accent)?;
     let column = letter_column(letter)?;
     listed(COMPOSED[row][column])
 }
 
-/// Accents "stand before a letter A to Z or a to z".
+/// The column of a letter A to Z or a to z.
 fn letter_column(letter: u8) -> Option<usize> {
     match letter {
         b'A'..=b'Z' => Some(usize::from(letter - b'A')),
@@ -237,6 +300,65 @@ mod tests {
         assert_eq!(composed(0xC2, b'q'), None);
         assert_eq!(composed(0xC9, b'a'), None);
         assert_eq!(composed(0xCC, b'a'), None);
+    }
+
+    /// Each of the 256 codes behind each of the 256: which of them go together.
+    #[test]
+    fn every_accent_before_every_code() {
+        let (mut letters, mut marked, mut spaces) = (0, 0, 0);
+        for accent in 0x00..=0xFF {
+            for code in 0x00..=0xFF {
+                let listed = ACCENTS.iter().find(|(listed, _)| *listed == accent).map(|(_, mark)| *mark);
+                let expected = match (listed, code) {
+                    (Some(mark), 0x20) => Some(Character { first: '\u{A0}', mark: Some(mark) }),
+                    (Some(mark), b'A'..=b'Z' | b'a'..=b'z') => match composed(accent, code) {
+                        Some(letter) => Some(Character { first: letter, mark: None }),
+                        None => Some(Character { first: code as char, mark: Some(mark) }),
+                    },
+                    _ => None,
+                };
+                let read = accented(accent, code);
+                assert_eq!(read, expected, "{accent:02X} {code:02X}");
+                let Some(read) = read else { continue };
+                letters += u32::from(read.mark.is_none());
+                marked += u32::from(read.mark.is_some() && code != 0x20);
+                spaces += u32::from(code == 0x20);
+            }
+        }
+        assert_eq!((letters, marked, spaces), (251, 13 * 52 - 251, 13));
+    }
+
+    #[test]
+    fn some_letters_with_marks() {
+        let read = |accent, code| {
+            let Character { first, mark } = accented(accent, code).unwrap();
+            String::from_iter([Some(first), mark].into_iter().flatten())
+        };
+        assert_eq!(read(0xC2, b'e'), "\u{E9}");
+        assert_eq!(read(0xC2, b'X'), "X\u{301}");
+        assert_eq!(read(0xC2, b' '), "\u{A0}\u{301}");
+        assert_eq!(read(0xCB, b'b'), "b\u{327}");
+        assert_eq!(read(0xCD, b'e'), "e\u{30B}");
+        assert_eq!(read(0xCE, b' '), "\u{A0}\u{328}");
+        assert_eq!(read(0xCF, b'q'), "q\u{30C}");
+        for code in [0xA0, 0x8A, 0x80, 0x07, b'1', b'@', b'[', b'`', b'{', 0xC2, 0xE1] {
+            assert_eq!(accented(0xC2, code), None, "{code:02X}");
+        }
+        for accent in [0xC0, 0xC9, 0xCC, 0xD0, 0x42] {
+            assert_eq!((accented(accent, b'e'), accented(accent, b' ')), (None, None), "{accent:02X}");
+        }
+    }
+
+    #[test]
+    fn thirteen_marks() {
+        let marks: Vec<char> =
+            (0..=0xFFFF).filter_map(char::from_u32).filter(|&point| is_mark(point)).collect();
+        let mut expected: Vec<char> = ACCENTS.iter().map(|&(_, mark)| mark).collect();
+        expected.sort_unstable();
+        assert_eq!(marks, expected);
+        assert!(!is_mark('\u{332}') && !is_mark('\u{311}') && !is_mark('\u{305}') && !is_mark('\u{309}'));
+        // No code of the table is read as a mark.
+        assert!((0x00..=0xFF).filter_map(latin).all(|character| !is_mark(character)));
     }
 
     #[test]

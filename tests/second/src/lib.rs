@@ -1,7 +1,8 @@
 //! An independent second converter from EBU STL subtitle files to EBU-TT
-//! documents, written from document 01 (the rules), from requests 1 to 3 of
-//! document 02 (open subtitles, text after the end box, "Tell me why") and from
-//! Appendix B of document 004 (the Latin table) alone.
+//! documents, written from document 01 (the rules), from requests 1 to 4 of
+//! document 02 (open subtitles, text after the end box, "Tell me why", accents
+//! without a ready-made letter) and from Appendix B of document 004 (the Latin
+//! table) alone.
 //!
 //! * [`characters`]: codes and accent pairs to characters
 //! * [`file`]: where the bytes of the file stand
@@ -10,9 +11,11 @@
 //! * [`document`]: the words of the document
 //! * [`convert`](mod@convert): the order of the tests and the answer
 //! * [`explain`](mod@explain): which byte breaks the rule
+//! * [`reader`]: a document's span to cells
 //! * [`program`]: the input of the programs
 //! * [`dice`]: chance from a seed
 //! * [`make`]: test files from a seed
+//! * [`pairs`]: every accent before every code, at every place
 //! * [`assemble`]: files put together field by field
 
 pub mod assemble;
@@ -24,7 +27,9 @@ pub mod document;
 pub mod explain;
 pub mod file;
 pub mod make;
+pub mod pairs;
 pub mod program;
+pub mod reader;
 pub mod text;
 
 pub use convert::convert;

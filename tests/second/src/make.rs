@@ -8,6 +8,7 @@
 //! papers, for the largest sets, for texts of any codes, or for one kind of fault
 //! within a number.
 
+mod accents;
 mod boxes;
 mod header;
 mod limits;
@@ -23,6 +24,7 @@ mod why;
 
 use crate::convert;
 use crate::dice::Dice;
+use accents::accent_case;
 use boxes::box_case;
 use limits::paper_case;
 use open::open_case;
@@ -48,6 +50,7 @@ pub fn sample(seed: u64) -> Sample {
         78..=137 => open_case(&mut dice),
         138..=161 => box_case(&mut dice),
         162..=209 => raw_text(&mut dice),
+        210..=257 => accent_case(&mut dice),
         528..=599 => why_case(&mut dice),
         _ => ordinary(&mut dice),
     };
@@ -76,6 +79,7 @@ fn room(dice: &mut Dice, file: &[u8], mode: u64) -> usize {
 
 #[cfg(test)]
 mod tests {
+    use super::accents::{bad_pair, good_pair};
     use super::header::frame;
     use super::ordinary::with_faults;
     use super::text::{bad_fragment, row_of};
@@ -103,6 +107,20 @@ mod tests {
                 let fragment = bad_fragment(&mut dice, display);
                 let read = text::read(&fragment, display, BreakMode::One, 1);
                 assert_eq!(read, Err(Reason::Code), "{fragment:02X?}");
+            }
+        }
+    }
+
+    #[test]
+    fn pairs_are_good_or_bad() {
+        let mut dice = Dice::new(3);
+        for display in DISPLAYS {
+            for _ in 0..5000 {
+                let pair = good_pair(&mut dice);
+                assert!(text::read(&pair, display, BreakMode::Two, 1).is_ok(), "{pair:02X?}");
+                let pair = bad_pair(&mut dice);
+                let read = text::read(&pair, display, BreakMode::Two, 1);
+                assert_eq!(read, Err(Reason::Code), "{pair:02X?}");
             }
         }
     }

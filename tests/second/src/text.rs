@@ -1,6 +1,6 @@
 //! A set's text to rows of spans.
 
-use crate::characters::{composed, is_accent, latin};
+use crate::characters::{accented, is_accent, latin, Character};
 use crate::display::Display;
 use crate::Reason;
 
@@ -128,15 +128,15 @@ pub fn read(text: &[u8], display: Display, mode: BreakMode, vertical_position: u
     Ok(Rows { rows, filler })
 }
 
-/// What one code, or an accent with its letter, stands for.
+/// What one code, or an accent with the code after it, stands for.
 #[derive(PartialEq, Eq, Debug, Clone, Copy)]
 enum Code {
     /// A code below 20h: one blank cell.
     Control(u8),
     /// 80h to 83h: no cell.
     Switch(Switch),
-    /// A code of 20h or above, or an accent with its letter: one cell.
-    Character(char),
+    /// A code of 20h or above, or an accent with a letter or 20h: one cell.
+    Character(Character),
     /// 8Ah: no cell.
     RowEnd,
 }
@@ -158,10 +158,10 @@ fn read_codes(text: &[u8], display: Display) -> Option<Vec<Code>> {
         } else if let Some(code) = code_of_display(byte, display) {
             code
         } else if is_accent(byte) {
-            // C1h to CFh "stand before a letter".
-            Code::Character(composed(byte, bytes.next()?)?)
+            // "13 only before what is no letter and no 20h, or before nothing".
+            Code::Character(accented(byte, bytes.next()?)?)
         } else {
-            Code::Character(latin(byte)?)
+            Code::Character(Character::plain(latin(byte)?))
         };
         codes.push(code);
     }
@@ -268,7 +268,7 @@ fn lines_covered(rows: usize, double: bool) -> usize {
 /// One cell of a row.
 #[derive(Debug, Clone, Copy)]
 struct Cell {
-    character: char,
+    character: Character,
     blank: bool,
     colour: u8,
     background: u8,
@@ -279,7 +279,7 @@ struct Cell {
 impl Cell {
     /// "Hidden cells become blanks on black".
     const HIDDEN: Cell = Cell {
-        character: ' ',
+        character: Character::SPACE,
         blank: true,
         colour: WHITE,
         background: BLACK,
@@ -339,9 +339,9 @@ fn cells(row: &[Code], pen: &mut Pen) -> Vec<Cell> {
         }
         let character = character_of(code);
         let Pen { italics, underline } = *pen;
-        // "A blank is the cell of 20h or of a control; U+00A0 is none." Only
-        // 20h reads as U+0020. "An underlined space is no blank."
-        let blank = character == ' ' && !underline;
+        // "A blank is the cell of 20h or of a control; U+00A0 is none", and none
+        // with a mark. Only 20h reads as U+0020. "An underlined space is no blank."
+        let blank = character == Character::SPACE && !underline;
         cells.push(Cell { character, blank, colour, background, italics, underline });
         // "A colour holds from the next cell."
         if let Code::Control(new @ 0x00..=0x07) = code {
@@ -380,10 +380,10 @@ fn has_boxes(row: &[Code]) -> bool {
 }
 
 /// "Each [control] yields one blank cell."
-fn character_of(code: Code) -> char {
+fn character_of(code: Code) -> Character {
     match code {
         Code::Character(character) => character,
-        Code::Control(_) | Code::Switch(_) | Code::RowEnd => ' ',
+        Code::Control(_) | Code::Switch(_) | Code::RowEnd => Character::SPACE,
     }
 }
 
@@ -432,10 +432,17 @@ fn longest_span(cells: &[Cell]) -> usize {
 fn span(cells: &[Cell], double: bool) -> Span {
     let (background, underline) = cells[0].ground();
     let (colour, italics) = cells.iter().find_map(Cell::ink).unwrap_or((WHITE, false));
-    Span {
-        look: Look::pack(italics, underline, double, background, colour),
-        text: cells.iter().map(|cell| cell.character).collect(),
+    Span { look: Look::pack(italics, underline, double, background, colour), text: text_of(cells) }
+}
+
+/// The code points of the cells: of each its character, then its mark.
+fn text_of(cells: &[Cell]) -> String {
+    let mut text = String::with_capacity(cells.len());
+    for Cell { character, .. } in cells {
+        text.push(character.first);
+        text.extend(character.mark);
     }
+    text
 }
 
 #[cfg(test)]
@@ -645,18 +652,37 @@ mod tests {
     fn accents() {
         let err = |text: &[u8]| rows(text, BreakMode::One, 1).unwrap_err();
         assert_eq!(one_row(b"\xC2e"), vec![(7, "\u{E9}".into())]);
+        assert_eq!(one_row(b"\xC2X"), vec![(7, "X\u{301}".into())]);
+        assert_eq!(one_row(b"\xC2 "), vec![(7, "\u{A0}\u{301}".into())]);
         for bad in [
             &b"\xC2"[..],
-            b"\xC2 ",
+            b"\xC2\xA0",
             b"\xC2\x8A",
             b"\xC2\xC2e",
             b"\xC2\x01e",
-            b"\xC2q",
+            b"\xC21",
             b"\xC9a",
+            b"\xC9 ",
             b"\xCCa",
+            b"\xCC ",
             b"\xC0a",
+            b"\xC0 ",
         ] {
             assert_eq!(err(bad), Reason::Code);
         }
+    }
+
+    /// U+00A0 with a mark: not trimmed, in a colour, and one cell.
+    #[test]
+    fn marks_without_a_letter() {
+        assert_eq!(one_row(b"  \xC2  "), vec![(7, "\u{A0}\u{301}".into())]);
+        assert_eq!(
+            one_row(b"A\x01\xCE \x07B"),
+            vec![(7, "A ".into()), (1, "\u{A0}\u{328} ".into()), (7, "B".into())]
+        );
+        assert_eq!(one_row(b"\xC2 \x0BA\x0A\xC2 "), vec![(7, "A".into())]);
+        assert_eq!(one_open_row(b"\x82\xC2 \x83 "), vec![(135, "\u{A0}\u{301}".into())]);
+        assert_eq!(one_row(&b"\xC2 ".repeat(64)), vec![(7, "\u{A0}\u{301}".repeat(64))]);
+        assert_eq!(rows(&b"\xC2 ".repeat(65), BreakMode::One, 1), Err(Reason::RowsDoNotFit));
     }
 }

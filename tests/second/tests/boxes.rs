@@ -221,8 +221,8 @@ fn hidden_codes_not_listed() {
         refused(&[0x0B, b'A', 0x0A, code, 0x0B, b'B'], 13);
         refused(&[b'A', code, 0x0A], 13);
     }
-    refused(b"\x0BA\x0A\xC2q", 13);
-    refused(b"\xC2 \x0BA", 13);
+    refused(b"\x0BA\x0A\xC21", 13);
+    refused(b"\xC2\xA0\x0BA", 13);
     refused(b"\x0BA\x0A\xC2", 13);
 }
 

@@ -136,9 +136,12 @@ fn accent_over_a_block_end() {
     );
 }
 
+/// "the P case C2h, 20h turns from 13 to one cell"
 #[test]
 fn accent_without_letter() {
-    assert_refused(&file(&[tti(b"\xC2 ")]), 1, 13, 0);
+    let expected = "<tt:span style=\"s007\">\u{A0}\u{301}</tt:span>".to_string() + &"<tt:br/>".repeat(3);
+    assert_eq!(inside(&file(&[tti(b"\xC2 ")]), 1), expected);
+    assert_refused(&file(&[tti(b"\xC2\xA0")]), 1, 13, 0);
 }
 
 #[test]

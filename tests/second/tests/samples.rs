@@ -1,8 +1,9 @@
 //! What holds of every sample, and how often each answer comes. The stored
 //! samples.
 
+use second::characters::{self, Character};
 use second::make::{sample, Sample};
-use second::{characters, convert, Answer};
+use second::{convert, Answer};
 use std::collections::{BTreeMap, BTreeSet};
 use std::process::Command;
 
@@ -95,13 +96,14 @@ fn every_answer_comes_often() {
     assert!(numbers[&Kind::Other][4] >= 200);
 }
 
-/// Every look, every character of the table and every composed letter stand in
-/// some document; every code that is refused stands in some refused text, of
-/// either kind; sets of 241 blocks and of one more come.
+/// Every look, every character of the table and every accent with every letter and
+/// 20h stand in some document; every code that is refused stands in some refused
+/// text, of either kind; sets of 241 blocks and of one more come.
 #[test]
 fn every_corner_is_visited() {
     let mut looks = BTreeMap::from([(Kind::Teletext, BTreeSet::new()), (Kind::Open, BTreeSet::new())]);
     let mut seen = BTreeSet::new();
+    let mut seen_marked = BTreeSet::new();
     let mut refused_codes = BTreeSet::new();
     let mut refused_pairs = BTreeSet::new();
     let (mut longest, mut one_more) = (0, 0);
@@ -117,6 +119,9 @@ fn every_corner_is_visited() {
                 looks.entry(kind(&sample)).or_default().extend(used);
                 let body = document.split("<tt:body>").nth(1).unwrap();
                 seen.extend(body.chars());
+                let points: Vec<char> = body.chars().collect();
+                let marked = points.windows(2).filter(|pair| characters::is_mark(pair[1]));
+                seen_marked.extend(marked.map(|pair| (pair[0], pair[1])));
                 longest += u64::from(
                     answer.continuations >= 240
                         && sample.file[1024 + 3..].iter().step_by(128).any(|&ebn| ebn == 0xEF),
@@ -140,16 +145,18 @@ fn every_corner_is_visited() {
     assert_eq!(open, ["007", "135", "263", "391"]);
     let teletext: Vec<String> = (0..128).map(|look| format!("{look:03}")).collect();
     assert_eq!(looks[&Kind::Teletext], BTreeSet::from_iter(teletext));
-    let letters = || (b'A'..=b'Z').chain(b'a'..=b'z');
+    let letters = || (b'A'..=b'Z').chain(b'a'..=b'z').chain([b' ']);
     for code in (0x20..=0x7E).chain(0xA0..=0xFF) {
         assert!(characters::latin(code).is_none_or(|character| seen.contains(&character)), "{code:02X}");
     }
     for accent in 0xC1..=0xCF {
         for letter in letters() {
-            match characters::composed(accent, letter) {
-                Some(character) => assert!(seen.contains(&character)),
-                None => assert!(refused_pairs.contains(&(accent, letter)), "{accent:02X} {letter:02X}"),
-            }
+            let here = match characters::accented(accent, letter) {
+                Some(Character { first, mark: None }) => seen.contains(&first),
+                Some(Character { first, mark: Some(mark) }) => seen_marked.contains(&(first, mark)),
+                None => refused_pairs.contains(&(accent, letter)),
+            };
+            assert!(here, "{accent:02X} {letter:02X}");
         }
     }
     for code in (0x00..=0xFF).filter(|&code| code != 0x8F) {

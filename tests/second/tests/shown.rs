@@ -1,21 +1,22 @@
 //! Documents of open subtitles read back: they show the rows of their files,
 //! and their spans are as long as they can be.
 
+use second::characters::{self, Character};
 use second::make::sample;
-use second::{characters, convert};
+use second::{convert, reader};
 
 /// A cell as a reader of request 1 sees it.
 #[derive(PartialEq, Eq, Debug, Clone, Copy)]
 struct Cell {
-    character: char,
+    character: Character,
     italics: bool,
     underline: bool,
 }
 
 impl Cell {
-    /// "An underlined space is no blank."
+    /// "An underlined space is no blank", nor is one with a mark.
     fn is_blank(self) -> bool {
-        self.character == ' ' && !self.underline
+        self.character == Character::SPACE && !self.underline
     }
 
     /// "equal underline at every cell and equal italics wherever it asks for
@@ -102,8 +103,8 @@ fn rows(text: &[u8]) -> Vec<Vec<Cell>> {
                 underline = byte == 0x82;
                 continue;
             }
-            0xC1..=0xCF => characters::composed(byte, bytes.next().unwrap()),
-            _ => characters::latin(byte),
+            0xC1..=0xCF => characters::accented(byte, bytes.next().unwrap()),
+            _ => characters::latin(byte).map(Character::plain),
         };
         rows.last_mut().unwrap().push(Cell { character: character.unwrap(), italics, underline });
     }
@@ -129,12 +130,12 @@ fn lines(paragraph: &str) -> Vec<Vec<Vec<Cell>>> {
 fn span(text: &str) -> Vec<Cell> {
     let (look, rest) = text.split_once("\">").unwrap();
     let text = rest.strip_suffix("</tt:span>").unwrap();
-    let text = text.replace("&lt;", "<").replace("&gt;", ">").replace("&amp;", "&");
     let look: u32 = look.parse().unwrap();
     // White on black, single height.
     assert_eq!(look & 127, 7);
     let (italics, underline) = (look & 256 != 0, look & 128 != 0);
-    let cells: Vec<Cell> = text.chars().map(|character| Cell { character, italics, underline }).collect();
+    let characters = reader::cells(text).expect("a span of the profile").into_iter();
+    let cells: Vec<Cell> = characters.map(|character| Cell { character, italics, underline }).collect();
     // "a span of blanks only is white and upright"
     assert!(!italics || !cells.iter().all(|cell| cell.is_blank()));
     cells

@@ -2,25 +2,26 @@
 //! request 2 has it, and their spans are as long as they can be. What stands in
 //! the samples of it, and how often.
 
+use second::characters::{self, Character};
 use second::make::sample;
-use second::{characters, convert, Answer};
+use second::{convert, reader, Answer};
 use std::collections::BTreeMap;
 
 const END: u8 = 0x0A;
 const START: u8 = 0x0B;
 
-/// A code, or an accent with its letter: the first byte, and the character or
-/// the blank of a control.
+/// A code, or an accent with what follows: the first byte, and the character or the
+/// blank of a control.
 #[derive(PartialEq, Eq, Debug, Clone, Copy)]
 struct Code {
     byte: u8,
-    character: char,
+    character: Character,
 }
 
 /// A cell as a reader sees it.
 #[derive(PartialEq, Eq, Debug, Clone, Copy)]
 struct Cell {
-    character: char,
+    character: Character,
     background: u8,
     colour: u8,
     double: bool,
@@ -28,7 +29,7 @@ struct Cell {
 
 impl Cell {
     fn is_blank(self) -> bool {
-        self.character == ' '
+        self.character == Character::SPACE
     }
 
     fn is_blank_on_black(self) -> bool {
@@ -105,12 +106,12 @@ impl Row {
     }
 
     fn is_hidden_text(&self, at: usize) -> bool {
-        self.is_hidden(at) && self.0[at].character != ' '
+        self.is_hidden(at) && self.0[at].character != Character::SPACE
     }
 
     fn cell(&self, at: usize, double: bool) -> Cell {
         if self.is_hidden(at) {
-            return Cell { character: ' ', background: 0, colour: 7, double };
+            return Cell { character: Character::SPACE, background: 0, colour: 7, double };
         }
         let character = self.0[at].character;
         Cell { character, background: self.background(at), colour: self.colour(at), double }
@@ -168,9 +169,9 @@ impl Subtitle {
                     rows.push(Row(Vec::new()));
                     continue;
                 }
-                0x00..=0x1F => Some(' '),
-                0xC1..=0xCF => characters::composed(byte, bytes.next().unwrap()),
-                _ => characters::latin(byte),
+                0x00..=0x1F => Some(Character::SPACE),
+                0xC1..=0xCF => characters::accented(byte, bytes.next().unwrap()),
+                _ => characters::latin(byte).map(Character::plain),
             };
             rows.last_mut().unwrap().0.push(Code { byte, character: character.unwrap() });
         }
@@ -207,7 +208,9 @@ impl Corners {
         let end = row.places().rfind(|&at| row.closes(at)).unwrap_or(length);
         let text = row.has_hidden_text();
         let background = |at: usize| row.is_hidden(at) && row.background(at) != 0;
-        let hidden = |character: char| row.any(|at| row.is_hidden(at) && row.0[at].character == character);
+        let hidden = |wanted: &dyn Fn(Character) -> bool| {
+            row.any(|at| row.is_hidden(at) && wanted(row.0[at].character))
+        };
         self.count_all([
             ("text in front of a box", first < length && row.any(|at| at < first && row.is_hidden_text(at))),
             ("text behind a box", end > last && row.any(|at| at > end && row.is_hidden_text(at))),
@@ -218,7 +221,15 @@ impl Corners {
             ("0Ah only, and a background", !row.has(START) && row.any(background)),
             ("0Bh only, and text", !row.has(END) && text),
             ("64 cells and hidden text", length == 64 && text),
-            ("U+00A0 hidden", hidden('\u{A0}')),
+            ("U+00A0 hidden", hidden(&|character| character == Character::plain('\u{A0}'))),
+            (
+                "U+00A0 and a mark hidden",
+                hidden(&|character| character.first == '\u{A0}' && character.mark.is_some()),
+            ),
+            (
+                "a letter and a mark hidden",
+                hidden(&|character| character.first != '\u{A0}' && character.mark.is_some()),
+            ),
             ("an accent hidden", row.any(|at| row.is_hidden(at) && (0xC1..=0xCF).contains(&row.0[at].byte))),
         ]);
     }
@@ -249,7 +260,7 @@ impl Corners {
             let before = (0..at).rfind(|&before| codes.contains(&row.0[before].byte));
             row.is_boxed(at) && before.is_some_and(|b| row.0[b].byte == code && row.is_hidden(b))
         };
-        let letter = |at: usize| row.0[at].character != ' ';
+        let letter = |at: usize| row.0[at].character != Character::SPACE;
         let colours: Vec<u8> = (0..8).collect();
         self.count_all([
             ("red set while hidden", row.any(|at| letter(at) && set(&colours, 1, at))),
@@ -392,13 +403,13 @@ fn lines(paragraph: &str) -> Vec<Vec<Vec<Cell>>> {
 fn span(text: &str) -> Vec<Cell> {
     let (look, rest) = text.split_once("\">").unwrap();
     let text = rest.strip_suffix("</tt:span>").unwrap();
-    let text = text.replace("&lt;", "<").replace("&gt;", ">").replace("&amp;", "&");
     let look: u8 = look.parse().unwrap();
     // Neither italics nor underline in teletext.
     assert!(look < 128);
     let (background, colour, double) = (look >> 3 & 7, look & 7, look & 64 != 0);
+    let characters = reader::cells(text).expect("a span of the profile").into_iter();
     let cells: Vec<Cell> =
-        text.chars().map(|character| Cell { character, background, colour, double }).collect();
+        characters.map(|character| Cell { character, background, colour, double }).collect();
     // "A span of blanks only counts as white."
     assert!(colour == 7 || !cells.iter().all(|cell| cell.is_blank()));
     cells

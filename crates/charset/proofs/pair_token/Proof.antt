@@ -7,4 +7,4 @@ use Rattle.charset.proofs.pair_token.Tie as tie
 
 pub pair-token-spec : {M : Type 1} → statement M
 unfolding pairToken
-pair-token-spec = tie.close (tie.spec (λ c κs. search needs) (λ c κs. search needs) (λ c κs. search needs) (λ c. cc))
+pair-token-spec = tie.close (tie.spec (λ c κs. search needs) (λ c κs. search needs) (λ c. cc))

@@ -19,7 +19,7 @@ struct Case {
 
 fn main() {
     let input = std::env::args().nth(1).is_some_and(|word| word == "input");
-    for case in cases().into_iter().chain(open_cases()).chain(box_cases()) {
+    for case in cases().into_iter().chain(open_cases()).chain(box_cases()).chain(accent_cases()) {
         if input {
             case.write();
         } else {
@@ -127,7 +127,7 @@ fn box_cases() -> Vec<Case> {
         boxed("box-cells-64", &box_and_slug(64)),
         boxed("box-cells-65", &box_and_slug(65)),
         boxed("box-hidden-pair", b"\x0BAB\x0A\xC2e"),
-        boxed("box-hidden-bad-pair", b"\x0BAB\x0A\xC2q"),
+        boxed("box-hidden-bad-pair", b"\x0BAB\x0A\xC21"),
         boxed("box-hidden-code-08", b"\x0BAB\x0A\x08"),
         boxed("box-hidden-code-09", b"\x09\x0BAB\x0A"),
         boxed("box-accent-before-start", b"\xC2\x0Be"),
@@ -136,6 +136,67 @@ fn box_cases() -> Vec<Case> {
         boxed("box-height-after-hidden", b"X\x0D\x0BAB\x0A"),
         boxed("box-height-hidden-later", b"\x0BAB\x8A\x0D\x0BCD"),
         case("box-in-open", open(b"11", 10, b"\x0BAB\x0A")),
+    ]
+}
+
+/// Document 02, request 4, both sides of each sentence.
+fn accent_cases() -> Vec<Case> {
+    let teletext = |name, text: &[u8]| case(name, teletext(20, text));
+    let open = |name, text: &[u8]| case(name, open(b"11", 10, text));
+    let row_of = |pair: &[u8], cells| in_two_blocks(&pair.repeat(cells));
+    vec![
+        // One cell, of one or two code points.
+        teletext("accent-composed", b"\xC2e"),
+        teletext("accent-letter", b"\xC2X"),
+        teletext("accent-space", b"\xC2 "),
+        open("accent-letter-in-open", b"\xC2X"),
+        open("accent-space-in-open", b"\xC2 "),
+        teletext("accent-all-three", b"\xC2X\xC2 \xC2e"),
+        teletext("accents-before-Q", b"\xC1Q\xC2Q\xC3Q\xC4Q\xC5Q\xC6Q\xC7Q\xC8Q\xCAQ\xCBQ\xCDQ\xCEQ\xCFQ"),
+        teletext(
+            "accents-before-space",
+            b"\xC1 \xC2 \xC3 \xC4 \xC5 \xC6 \xC7 \xC8 \xCA \xCB \xCD \xCE \xCF ",
+        ),
+        // "no letter and no 20h", and nothing.
+        teletext("accent-accent", b"\xC2\xC2"),
+        teletext("accent-accent-letter", b"\xC2\xC2e"),
+        teletext("accent-accent-space", b"\xC2\xC2 "),
+        teletext("accent-row-end", b"\xC2\x8A"),
+        teletext("accent-row-end-space", b"\xC2\x8A "),
+        teletext("accent-last", b"A\xC2"),
+        teletext("accent-last-in-block", &full_block()),
+        teletext("accent-nbsp", b"\xC2\xA0"),
+        teletext("accent-digit", b"\xC21"),
+        teletext("accent-control", b"\xC2\x07 "),
+        open("accent-switch-space", b"\xC2\x80 "),
+        open("accent-last-in-open", b"A\xC2"),
+        teletext("accent-c0-space", b"\xC0 "),
+        teletext("accent-c9-space", b"\xC9 "),
+        teletext("accent-cc-space", b"\xCC "),
+        teletext("accent-cc-letter", b"\xCCX"),
+        // No blank.
+        teletext("mark-at-both-ends", b"\xC2 A\xC2 "),
+        teletext("mark-between-blanks", b"  \xC2 A\xC2   "),
+        teletext("mark-alone-in-row", b" \xC2  \x8A "),
+        teletext("mark-colours", b"A\x01\xC2 \x07B"),
+        teletext("mark-colours-letter", b"\x01\xC2 \x02\xC2X"),
+        teletext("mark-on-red", b"\x01\x1D\xC2 \x1C\xC2 "),
+        open("mark-italics", b"A\x80\xC2 \x81B"),
+        open("mark-underlined", b"\x82\xC2 \x83\xC2 "),
+        teletext("mark-hidden", b"\xC2 \x0BAB\x0A\xC2X"),
+        teletext("mark-height", b"\xC2 \x0DA"),
+        // Cells and blocks.
+        case("mark-cells-64", row_of(b"\xC2 ", 64)),
+        case("mark-cells-65", row_of(b"\xC2 ", 65)),
+        case("mark-letters-64", row_of(b"\xC2X", 64)),
+        case("mark-letters-65", row_of(b"\xC2X", 65)),
+        case("mark-cells-64-cut", in_two_blocks(&[b"A", &b"\xC2 ".repeat(63)[..]].concat())),
+        case("mark-cells-65-cut", in_two_blocks(&[b"A", &b"\xC2 ".repeat(64)[..]].concat())),
+        case("mark-over-blocks", set(&[b"A\xC2", b" "])),
+        case("mark-over-user-block", with_user_block(&[b"A\xC2", b" "])),
+        case("mark-none-over-blocks", set(&[b"A\xC2", b""])),
+        case("mark-none-over-user", with_user_block(&[b"A\xC2", b""])),
+        case("mark-row-end-over-blocks", set(&[b"A\xC2", b"\x8A "])),
     ]
 }
 
@@ -181,6 +242,32 @@ fn box_and_slug(cells: usize) -> Vec<u8> {
     let mut row = b"\x0BAB\x0A".to_vec();
     row.resize(cells, b'X');
     row
+}
+
+/// 112 bytes in four rows, the last an accent.
+fn full_block() -> Vec<u8> {
+    [b"A\x8AA\x8A", &[b'A'; 52][..], b"\x8A", &[b'A'; 54], b"\xC2"].concat()
+}
+
+/// SET(text, text).
+fn set(texts: &[&[u8]; 2]) -> Vec<u8> {
+    assemble::file(25, &blocks(texts))
+}
+
+/// SET(text, text) with a user block between.
+fn with_user_block(texts: &[&[u8]; 2]) -> Vec<u8> {
+    let [first, last] = blocks(texts);
+    assemble::file(25, &[first, Tti { ebn: 0xFE, ..tti(b"e") }, last])
+}
+
+fn blocks(texts: &[&[u8]; 2]) -> [Tti; 2] {
+    [Tti { ebn: 0x00, ..tti(texts[0]) }, tti(texts[1])]
+}
+
+/// SET of the first 112 bytes and the rest.
+fn in_two_blocks(text: &[u8]) -> Vec<u8> {
+    let (first, rest) = text.split_at(112);
+    set(&[first, rest])
 }
 
 /// OPEN("11", 2), SUBTITLE(1, 9, text) and SUBTITLE(2, 10, 43h).

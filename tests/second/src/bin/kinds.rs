@@ -22,6 +22,7 @@ fn kinds() -> Vec<(&'static str, Vec<u8>)> {
         ("boxes", file(25, &boxes())),
         ("escapes", file(25, &[tti(b"\x0DTom & <Jerry> say \"it's ]]>\"")])),
         ("accents", file(25, &accents())),
+        ("marks", file(25, &marks())),
         ("rows", file(25, &rows())),
         ("30-frames", file(30, &[Tti { tco: [10, 0, 3, 29], ..tti(b"Thirty") }])),
         ("open-empty", open_file(25, 99, &[])),
@@ -58,6 +59,15 @@ fn boxes() -> [Tti; 2] {
 fn accents() -> [Tti; 2] {
     let first = b"Fran\xCBcais \xC8u\xC4n\xCFz \xA4 \xA3 \xA9\xB9 \xD5 \xA0\xFF caf\xC2";
     [Tti { ebn: 0x00, ..tti(first) }, tti(b"e")]
+}
+
+/// Letters with combining marks, U+00A0 with each of the thirteen at both ends of a
+/// row and in colours, signs that are escaped beside them, and an accent whose space
+/// stands in the next block.
+fn marks() -> [Tti; 3] {
+    let spaces = b"\xC1 \xC2 \xC3 \xC4 \xC5 \xC6 \xC7 \x01\xC8 \x1D\xCA \xCB \x07\xCD \x1C\xCE \xCF ";
+    let letters = b"\x0D\xC4i\xC2X \xCBb & <\xCFq> \xCEa\xCEb\xCDe\xCAo caf\xC2";
+    [Tti { vp: 23, ..tti(spaces) }, Tti { sn: 2, ebn: 0x00, ..tti(letters) }, Tti { sn: 2, ..tti(b" \xC2e") }]
 }
 
 /// Four rows, one of them empty, with filler lines below; a subtitle that shows

@@ -1,7 +1,7 @@
 //! The byte of a set's text that breaks a rule, 13 to 15.
 
 use super::start_of;
-use crate::characters::{composed, is_accent, latin};
+use crate::characters::{accented, is_accent, latin};
 use crate::display::Display;
 use crate::file::{self, BLOCK_LENGTH, END_OF_TEXT, LAST_OF_SET, USER_DATA};
 
@@ -58,7 +58,7 @@ fn not_listed(text: &[Code], display: Display) -> Option<usize> {
     while let Some(code) = codes.next() {
         let listed = if is_accent(code.byte) {
             // It takes the code after it, whatever that is.
-            codes.next().is_some_and(|letter| composed(code.byte, letter.byte).is_some())
+            codes.next().is_some_and(|next| accented(code.byte, next.byte).is_some())
         } else {
             is_listed(code.byte, display)
         };
@@ -168,7 +168,7 @@ fn rows(text: &[Code], break_length: usize) -> Vec<Row<'_>> {
     rows
 }
 
-/// An accent and its letter are one cell, and switches "take no cell".
+/// An accent and its letter, or 20h, are one cell, and switches "take no cell".
 fn cell_count(row: &[Code]) -> usize {
     row.iter().filter(|code| !is_accent(code.byte) && !matches!(code.byte, 0x80..=0x83)).count()
 }

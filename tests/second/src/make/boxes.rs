@@ -1,11 +1,12 @@
 //! Teletext rows with boxes and with text outside them, and samples for the
 //! sentences of request 2.
 
+use super::accents::good_pair;
 use super::header::good_header;
 use super::open::with_text;
 use super::plan::Plan;
 use super::sets::{add_user_blocks, set};
-use super::text::{bad_fragment, good_character, good_pair, row_of, SOUP};
+use super::text::{bad_fragment, good_character, row_of, SOUP};
 use crate::dice::Dice;
 use crate::display::Display;
 
@@ -192,7 +193,7 @@ fn accents_and_boxes(dice: &mut Dice, mut plan: Plan) -> Plan {
     let texts = match dice.below(5) {
         0 => vec![vec![accent, code, b'e']],
         1 => vec![vec![b'x', START, accent], vec![code, b'e']],
-        2 => vec![vec![START], vec![accent], vec![b'e', code, accent], vec![b'a', END, accent, b'a']],
+        2 => vec![vec![START], vec![accent], vec![b' ', code, accent], vec![b'q', END, accent, b'a']],
         3 => vec![vec![accent], vec![b'e', code, accent, b'u'], vec![END, accent, b'o']],
         _ => vec![vec![code, accent, b'e', START, accent], vec![b'a', b' ']],
     };

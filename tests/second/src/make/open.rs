@@ -195,8 +195,8 @@ fn accents_and_switches(dice: &mut Dice) -> Plan {
     let texts = match dice.below(4) {
         0 => vec![vec![accent], vec![switch, b'e']],
         1 => vec![vec![b'x', accent, switch], vec![b'e']],
-        2 => vec![vec![switch], vec![accent], vec![b'e', switch], vec![b'x']],
-        _ => vec![vec![b' ', switch, accent, b'e', switch, accent], vec![b'a', b' ']],
+        2 => vec![vec![switch], vec![accent], vec![dice.pick(b"e q"), switch], vec![b'x']],
+        _ => vec![vec![b' ', switch, accent, dice.pick(b"e q"), switch, accent], vec![b'a', b' ']],
     };
     let header = good_header(dice, 1, plan.rate);
     plan.blocks = set(dice, &header, 0, &texts);

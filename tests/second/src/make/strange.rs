@@ -1,16 +1,17 @@
 //! Short texts of any codes, and the largest sets.
 
+use super::accents::any_pair;
 use super::header::good_header;
 use super::ordinary::subtitle_set;
 use super::plan::{Plan, EBN};
 use super::sets::{comment_blocks, pieces, set, user_block};
 use super::switches::{OPEN_SOUP, SWITCHES};
-use super::text::{any_pair, good_position, text_of_rows, SOUP};
+use super::text::{good_position, text_of_rows, SOUP};
 use crate::dice::Dice;
 use crate::display::Display;
 
 /// Short texts of codes that are picked with little care: every code, every
-/// accent with every letter, and many controls.
+/// accent with every letter and 20h, and many controls.
 pub(super) fn raw_text(dice: &mut Dice) -> Plan {
     let mut plan = Plan::new(dice);
     let header = good_header(dice, 1, plan.rate);
@@ -23,7 +24,7 @@ pub(super) fn raw_text(dice: &mut Dice) -> Plan {
         // One code of all 256.
         0 => vec![dice.byte()],
         1 => vec![b'x', dice.byte(), b'y'],
-        // An accent with a letter.
+        // An accent with a letter or 20h.
         2..=5 => any_pair(dice).to_vec(),
         // Controls in any order.
         6 => (0..dice.between(1, 12)).map(|_| dice.pick(soup)).collect(),
@@ -47,9 +48,9 @@ pub(super) fn full(dice: &mut Dice) -> Plan {
     if dice.chance(10) {
         plan.blocks = comment_blocks(dice, 1, count);
     } else {
-        // Rows of 64 accents with letters, and a last one; in open subtitles
-        // also a switch before every cell.
-        let mut cell = [0xC2, b'e'];
+        // Rows of 64 accents with letters or spaces, and a last one; in open
+        // subtitles also a switch before every cell.
+        let mut cell = [0xC2, dice.pick(b"eq ")];
         if display.is_open() && dice.chance(50) {
             cell = [dice.pick(SWITCHES), dice.pick(b"e ")];
         }

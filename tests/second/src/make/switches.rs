@@ -1,6 +1,7 @@
 //! Rows of open subtitles: cells, and switches between them.
 
-use super::text::{good_character, good_pair};
+use super::accents::good_pair;
+use super::text::good_character;
 use crate::dice::Dice;
 
 /// Italics on and off, underline on and off.

@@ -1,8 +1,8 @@
 //! Texts of good sets, and fragments that are refused.
 
+use super::accents::{bad_pair, good_pair};
 use super::boxes::{boxed_row, END, START};
 use super::switches::open_row;
-use crate::characters::composed;
 use crate::dice::Dice;
 use crate::display::Display;
 
@@ -21,26 +21,9 @@ pub(super) fn good_character(dice: &mut Dice) -> u8 {
     }
 }
 
-/// An accent and a letter that have a composed letter.
-pub(super) fn good_pair(dice: &mut Dice) -> [u8; 2] {
-    loop {
-        let pair = any_pair(dice);
-        if composed(pair[0], pair[1]).is_some() {
-            return pair;
-        }
-    }
-}
-
-/// Any accent, C9h and CCh among them, and any letter.
-pub(super) fn any_pair(dice: &mut Dice) -> [u8; 2] {
-    [dice.byte_between(0xC1, 0xCF), dice.byte_between(b'A', b'Z') + dice.pick(&[0, 32])]
-}
-
 /// Fragments of text that are refused with 13, unless chance puts an accent
-/// before them or a letter after them.
+/// before them.
 pub(super) fn bad_fragment(dice: &mut Dice, display: Display) -> Vec<u8> {
-    let listed = dice.pick(&[0xC1, 0xC2, 0xC3, 0xC4, 0xC5, 0xC6, 0xC7, 0xC8, 0xCA, 0xCB, 0xCD, 0xCE, 0xCF]);
-    let letter = dice.byte_between(b'a', b'z');
     let open = display.is_open();
     match dice.below(13) {
         // The codes of teletext in open subtitles, the switches in teletext.
@@ -50,17 +33,11 @@ pub(super) fn bad_fragment(dice: &mut Dice, display: Display) -> Vec<u8> {
         0 => vec![dice.pick(&[0x08, 0x09, 0x0C, 0x0E, 0x0F, 0x1B, 0x1E, 0x1F])],
         1 => vec![dice.byte_between(0x0E, 0x1B)],
         2 | 3 => vec![dice.pick(&[0x7F, 0x84, 0x84, 0x85, 0x85, 0x86, 0x89, 0x8B, 0x8E, 0x90, 0x9F])],
-        12 => vec![dice.byte_between(0x90, 0x9F)],
-        4 => vec![dice.pick(&[0xA6, 0xA8, 0xC0, 0xD8, 0xD9, 0xDA, 0xDB, 0xE5])],
-        5 => vec![dice.pick(&[0xC9, 0xCC]), letter],
-        6 => {
-            vec![listed, dice.pick(&[0x20, 0x07, 0x0D, 0x1D, 0x80, 0x83, 0x8A, 0xA0, 0x40, 0x5B, 0x60, 0x7B])]
-        }
-        7 => vec![listed, listed, letter],
-        8 => vec![listed, dice.pick(&[0x01, 0x80, 0x81, 0x82, 0x83, 0x8A, 0xC2]), letter],
-        9 => vec![0xCD, dice.pick(b"aeicxq")],
-        10 => vec![dice.pick(&[0xC1, 0xC2, 0xC6, 0xCA, 0xCB, 0xCE]), dice.pick(b"bjqxQJB")],
-        _ => vec![listed, dice.pick(b"0139,./")],
+        4 => vec![dice.byte_between(0x90, 0x9F)],
+        5 | 6 => vec![dice.pick(&[0xA6, 0xA8, 0xC0, 0xD8, 0xD9, 0xDA, 0xDB, 0xE5])],
+        7..=9 => bad_pair(dice).to_vec(),
+        // A letter or a space that would do for the accent.
+        _ => [&bad_pair(dice)[..], dice.pick(&[b"e", b"q", b" "])].concat(),
     }
 }
 

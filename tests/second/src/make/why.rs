@@ -61,7 +61,7 @@ fn set_behind(dice: &mut Dice, plan: &mut Plan, sn: u16) {
 }
 
 /// Puts user blocks between the blocks of a set.
-fn add_users_inside(dice: &mut Dice, blocks: &mut Vec<Block>) {
+pub(super) fn add_users_inside(dice: &mut Dice, blocks: &mut Vec<Block>) {
     if blocks.len() < 2 || dice.chance(35) {
         return;
     }

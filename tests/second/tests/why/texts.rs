@@ -63,18 +63,24 @@ fn pairs() {
     let at = |text: &[u8], place: usize| {
         assert_named(&one(text), 1, 13, 0, (1040 + place as u64, text[place]));
     };
-    at(b"A\xC2q", 1);
-    at(b"A\xC2 ", 1);
+    at(b"A\xC21", 1);
+    at(b"A\xC2\xA0", 1);
     at(b"A\xC2\x8A", 1);
     at(b"A\xC2\x01e", 1);
-    at(b"A\xC9e", 1);
-    at(b"A\xCCe", 1);
+    at(b"A\xC2\x80e", 1);
+    for accent in [0xC0, 0xC9, 0xCC] {
+        for next in *b"eq 1\xC2\x8A" {
+            at(&[b'A', accent, next], 1);
+        }
+    }
     // An accent takes the code after it, whatever that is: a code not listed,
     // and an accent, which would have a letter.
     at(b"A\xC2\x7F", 1);
     at(b"A\xC2\xC2e", 1);
-    // After pairs that are listed.
-    at(b"\xC2e\xC2a\xC2x", 4);
+    // After pairs that are listed, of every kind.
+    at(b"\xC2e\xC2x\xC2 \xC2!", 6);
+    at(b"\xC2 \xC2\xC2 ", 2);
+    assert_accepted(&one(b"\xC2e\xC2x\xC2 "), 1);
     // A lone accent at the end.
     at(b"A\xC2", 1);
     at(b"\xC2e\xC2", 2);
@@ -91,7 +97,8 @@ fn codes_of_open_subtitles() {
     }
     at(b"\x80A\x82\xC2\x81e", 3);
     at(b"\x80A\x82\xC2", 3);
-    assert_accepted(&one_open(b"\x80A\x8A\x82\xC2e\x83\x81"), 1);
+    at(b"\x80A\x82\xC2 \xC2\x83 ", 5);
+    assert_accepted(&one_open(b"\x80A\x8A\x82\xC2e\x83\xC2q\xC2 \x81"), 1);
 }
 
 /// The byte's own place in the file: blocks, user blocks between them and text
@@ -128,11 +135,13 @@ fn pairs_over_block_ends() {
     let mut full = [b'A'; 112];
     full[50] = 0x8A;
     full[111] = 0xC2;
-    assert_accepted(&file(25, &set(1, &[&full, b"e"])), 1);
-    assert_named(&file(25, &set(1, &[&full, b"q"])), 1, 13, 0, (1151, 0xC2));
+    for next in [b"e", b"q", b" "] {
+        assert_accepted(&file(25, &set(1, &[&full, next])), 1);
+    }
+    assert_named(&file(25, &set(1, &[&full, b"1"])), 1, 13, 0, (1151, 0xC2));
     assert_named(&file(25, &set(1, &[&full, b""])), 1, 13, 0, (1151, 0xC2));
     // It is the last before 8Fh; then a block without text and user blocks.
-    let mut blocks = set(1, &[b"AB\xC8", b"", b"b"]);
+    let mut blocks = set(1, &[b"AB\xC8", b"", b"\xA0"]);
     assert_named(&file(25, &blocks), 1, 13, 0, (1042, 0xC8));
     blocks.insert(1, user());
     blocks.insert(3, user());
@@ -140,6 +149,7 @@ fn pairs_over_block_ends() {
     // A pair that is listed hides no fault behind it.
     assert_named(&file(25, &set(1, &[b"A\xC2", b"e\x7F"])), 1, 13, 0, (1169, 0x7F));
     assert_named(&file(25, &set(1, &[b"A\xC2", b"e\xC2"])), 1, 13, 0, (1169, 0xC2));
+    assert_named(&file(25, &set(1, &[b"A\xC2", b" \xC2", b"\x8A"])), 1, 13, 0, (1169, 0xC2));
 }
 
 /// 14: "0Dh after a code of 20h or above in its row".
@@ -250,6 +260,9 @@ fn rows_too_long() {
     assert_named(&file(25, &blocks), 1, 15, 0, (1040, 0xC2));
     let blocks = set(1, &[&pairs[..112], &pairs[112..128]]);
     assert_accepted(&file(25, &blocks), 1);
+    let pairs = b"\xCE ".repeat(65);
+    assert_named(&file(25, &set(1, &[&pairs[..111], &pairs[111..]])), 1, 15, 0, (1040, 0xCE));
+    assert_accepted(&file(25, &set(1, &[&pairs[..111], &pairs[111..128]])), 1);
     // Switches take no cell, but the first of them is the row's first byte.
     let row = joined(&[b"B\x8A\x80\x82", &long[..]]);
     assert_named(&one_open(&row), 1, 15, 0, (1042, 0x80));

@@ -3,8 +3,9 @@
 use super::{add_set, pieces_near};
 use crate::dice::Dice;
 use crate::display::Display;
+use crate::make::accents::good_pair;
 use crate::make::plan::Plan;
-use crate::make::text::{good_pair, row_of};
+use crate::make::text::row_of;
 
 pub(super) fn rows(dice: &mut Dice) -> Plan {
     let screens = [1, 2, 11, 24, 25, 99].map(|rows| Display::Open { rows });

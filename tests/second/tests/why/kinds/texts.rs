@@ -55,14 +55,20 @@ pub fn codes(kinds: &mut Kinds, sample: &Sample, reason: Explanation) {
     count("a pair with a block without text between", blocks > 1);
     count("a pair with a user block between", set.user_between(offset, next));
     count("an accent before an accent", is_accent(code));
-    count("an accent before a letter", code.is_ascii_alphabetic());
+    let listed = accent && !matches!(byte, 0xC9 | 0xCC);
+    let good = code.is_ascii_alphabetic() || code == 0x20;
+    assert!(!listed || !good, "one of the thirteen is refused \"only before what is no letter and no 20h\"");
     count("an accent before a row end", code == 0x8A);
     count("an accent before a control", code < 0x20);
     count("an accent before a switch", (0x80..0x84).contains(&code));
-    count("an accent before a space", code == 0x20);
+    count("an accent before A0h", listed && code == 0xA0);
+    count("an accent before a digit or a sign", listed && (0x21..0x40).contains(&code));
+    let above = (0xA1..=0xFF).contains(&code) && !is_accent(code);
+    count("an accent before a listed code above A0h", listed && above && characters::latin(code).is_some());
     let empty = (0xA0..=0xFF).contains(&code) && !is_accent(code) && characters::latin(code).is_none();
     count("an accent before a code not listed", empty || (0x84..0x8A).contains(&code));
-    count("C9h or CCh before a letter", matches!(byte, 0xC9 | 0xCC) && code.is_ascii_alphabetic());
+    count("C9h or CCh before a letter", !listed && code.is_ascii_alphabetic());
+    count("C9h or CCh before a space", !listed && code == 0x20);
 }
 
 pub fn heights(kinds: &mut Kinds, sample: &Sample, reason: Explanation) {
