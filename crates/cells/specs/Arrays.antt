@@ -11,12 +11,15 @@ use Rattle.meaning.specs.Looks.{pack, unpack}
 use Rattle.output.specs.Output.{stored}
 use Rattle.meaning.specs.Cells.{Cell, Pen, hiddenCell}
 
--- a character as one number: sixteen bits of code point, and its mark above them
+-- a character as one number: its code point in the lower half, its mark in the upper
+abbrev pub half : ℕ
+half = 65536
+
 unfoldable pub packed : Glyph → ℕ
-packed g = g .point + 65536 * g .mark
+packed g = g .point + half * g .mark
 
 unfoldable pub unpacked : ℕ → Glyph
-unpacked n = record { point = n % 65536; mark = n / 65536 }
+unpacked n = record { point = n % half; mark = n / half }
 
 -- the code points of a packed character
 unfoldable pub packedPoints : ℕ → List ℕ

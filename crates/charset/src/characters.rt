@@ -1,4 +1,4 @@
-// The code points of single codes and of accents with letters; 0 for none.
+// The code points of single codes, and the characters of accents with the code after them; a code point of 0 for none.
 ghost use mathlib.Core.Path.{_≡_};
 ghost use Prim.Native.Nat.{_≤_};
 ghost use Rattle.meaning.specs.Glyphs.{single};

@@ -9,6 +9,7 @@ pub mod Steps
 pub mod Gathering
 pub mod Walk
 pub mod Spelling
+pub mod CodePoints
 pub mod CellFacts
 pub mod OwnRows
 pub mod OwnProfile

@@ -28,7 +28,7 @@ use Rattle.meaning.proofs.RefusalLaws.{Holds, times-numbered, unbroken, unbroke
 use Rattle.meaning.proofs.ListLaws.All.{nil, cons}
 use Rattle.laws.proofs.Pieces.{fillersOf, pieces-are}
 use Rattle.laws.proofs.Trimming.{all-shown}
-use Rattle.laws.proofs.Spelling.{points-scalar, marks-stand}
+use Rattle.laws.proofs.CodePoints.{points-scalar, marks-stand}
 use Rattle.laws.proofs.CellFacts.{Sound, characters-spelled, points-of, rows-sound, spans-all, span-bits}
 use Rattle.meaning.proofs.LookLaws.{pack-small}
 use Rattle.laws.proofs.OwnRows.{SoundRows}

@@ -25,7 +25,7 @@ use Rattle.laws.proofs.Pieces.{fillersOf, pieces-are}
 use Rattle.laws.proofs.Fitting.{Fits, all-say, one-uniform}
 use Rattle.laws.proofs.Trimming.{shown-nil, shown-twice, same-shown, all-shown}
 use Rattle.meaning.proofs.LookLaws.{ThreeBits, unpack-pack}
-use Rattle.laws.proofs.Spelling.{glyphs-points}
+use Rattle.laws.proofs.CodePoints.{glyphs-points}
 use Rattle.laws.proofs.CellFacts.{Sound, characters, characters-spelled, points-of, spans-flat, spans-all, span-bits}
 
 -- each span is uniform

@@ -1,27 +1,25 @@
--- The characters that a text's codes stand for: their code points are such that UTF-8 writes, each mark stands on a character, and
--- they are read back.
+-- The characters that a text's codes stand for: a code point that is no mark, and on it one of the thirteen marks or none.
 -- Assumes nothing.
 use Prim.Native.Nat.{ℕ, zero, suc, _+_, _*_, _<_}
 use native.Mathlib.Omega.{arith}
-use mathlib.Core.Path.{_≡_, refl, sym, ap, _∙_}
+use mathlib.Core.Path.{_≡_, refl, sym, ap}
 use mathlib.Core.Bool.{Bool, true, false, not, _&&_, _||_}
-use mathlib.Core.List.{List, [], _∷_, flatMap}
+use mathlib.Core.List.{List, [], _∷_}
 use lib.Dec.{ltb, leb, eqb}
 use lib.ListN.{getD}
-use borrow.Author.Tests.{lt-ltb, ltb-true, leb-true, ne-eqb, eqb-true, not-true}
+use borrow.Author.Tests.{lt-ltb, ltb-true, leb-true, eqb-true, not-true}
 use Rattle.meaning.specs.declared.Glyph.{Glyph}
 use Rattle.meaning.specs.Lists.{all, any}
 use Rattle.meaning.specs.Tables.{latinTable, composedTable}
 use Rattle.meaning.specs.Characters.{latin, letter, composed, markOf, base, accented}
-use Rattle.meaning.specs.Glyphs.{marks, isMark, single, spelling, glyphs, space}
-use Rattle.meaning.specs.Profile.{isScalar, marksStand}
+use Rattle.meaning.specs.Glyphs.{marks, isMark, single, space}
+use Rattle.meaning.specs.Profile.{firstSurrogate, isScalar}
 use Rattle.meaning.proofs.Logic.{by-test, false-not-true, and-parts, and-true, or-second, between}
-use Rattle.meaning.proofs.ListLaws.{All, any-cons, all-append, all-at, all-tested, test-split}
-use Rattle.meaning.proofs.ListLaws.All.{nil, cons}
+use Rattle.meaning.proofs.ListLaws.{any-cons, all-at, all-tested, test-split}
 
 -- a code point before the surrogates, and no mark itself
 isBase : ℕ → Bool
-isBase p = ltb p 55296 && not (isMark p)
+isBase p = ltb p firstSurrogate && not (isMark p)
 
 -- on it a mark or none
 isMarking : ℕ → Bool
@@ -41,16 +39,30 @@ tables = (refl, refl, refl, refl)
 base-at : (xs : List ℕ) (k : ℕ) → all isBase xs ≡ true → isBase (getD xs k 0) ≡ true
 base-at xs k e = all-at (all-tested isBase xs e) 0 (unfold isBase isMark any marks in refl) k
 
+-- what all numbers of a list pass, each of them passes
+one-of : (q : ℕ → Bool) (x : ℕ) (xs : List ℕ) → any (eqb x) xs ≡ true → all q xs ≡ true → q x ≡ true
+one-of q x [] e h = absurd (false-not-true (unfold any in e))
+one-of q x (y ∷ xs) e h =
+    let s = test-split q y xs h in
+    by-test (eqb x y)
+    (λ f. rw (eqb-true x y f) (s .0))
+    (λ f. one-of q x xs (rw (any-cons (eqb x) y xs, f) at e) (s .1))
+
 -- no code point below U+0300 is a mark
-none-equal : (p n : ℕ) (xs : List ℕ) → p < n → all (leb n) xs ≡ true → any (eqb p) xs ≡ false
-none-equal p n [] h e = unfold any in refl
-none-equal p n (x ∷ xs) h e =
-    let s = test-split (leb n) x xs e in
-    rw (any-cons (eqb p) x xs, ne-eqb p x (λ q. omega (arith, q, leb-true n x (s .0)))) (none-equal p n xs h (s .1))
+below-marks : (p : ℕ) → p < 768 → isMark p ≡ false
+unfolding isMark
+below-marks p h =
+    by-test (isMark p)
+    (λ e. absurd (omega (arith, h, leb-true 768 p (one-of (leb 768) p marks e (unfold all marks in refl)))))
+    (λ e. e)
+
+pub mark-not-none : (m : ℕ) → isMark m ≡ true → eqb m 0 ≡ false
+unfolding isMark
+mark-not-none m e = not-true (eqb m 0) (one-of (λ k. not (eqb k 0)) m marks e (unfold all marks in refl))
 
 small-base : (p : ℕ) → p < 768 → isBase p ≡ true
-unfolding isBase isMark
-small-base p h = and-true (ltb p 55296) (not (isMark p)) (lt-ltb p 55296 (omega arith)) (ap not (none-equal p 768 marks h (unfold all marks in refl)))
+unfolding isBase
+small-base p h = and-true (ltb p firstSurrogate) (not (isMark p)) (lt-ltb p firstSurrogate (omega arith)) (ap not (below-marks p h))
 
 single-spelled : (p : ℕ) → isBase p ≡ true → Spelled (single p)
 unfolding isSpelled isMarking single
@@ -107,131 +119,27 @@ module _ (g : Glyph) (e : Spelled g) where
   unfolding isSpelled
   parts = and-parts (isBase (g .point)) (isMarking (g .mark)) e
 
-  base-parts : (ltb (g .point) 55296 ≡ true) × (not (isMark (g .point)) ≡ true)
+  base-parts : (ltb (g .point) firstSurrogate ≡ true) × (not (isMark (g .point)) ≡ true)
   unfolding isBase
-  base-parts = and-parts (ltb (g .point) 55296) (not (isMark (g .point))) (parts .0)
+  base-parts = and-parts (ltb (g .point) firstSurrogate) (not (isMark (g .point))) (parts .0)
 
-  point-base : isMark (g .point) ≡ false
+  pub point-base : isMark (g .point) ≡ false
   point-base = not-true (isMark (g .point)) (base-parts .1)
 
-  mark-is : eqb (g .mark) 0 ≡ false → isMark (g .mark) ≡ true
+  pub mark-is : eqb (g .mark) 0 ≡ false → isMark (g .mark) ≡ true
   unfolding isMarking
   mark-is f = or-second (eqb (g .mark) 0) (isMark (g .mark)) (parts .1) f
 
   -- the code point has sixteen bits, and UTF-8 writes it
-  point-below : g .point < 55296
-  point-below = ltb-true (g .point) 55296 (base-parts .0)
+  point-below : g .point < firstSurrogate
+  point-below = ltb-true (g .point) firstSurrogate (base-parts .0)
 
   pub point-small : g .point < 65536
   point-small = omega (arith, point-below)
 
-  point-scalar : isScalar (g .point) ≡ true
+  pub point-scalar : isScalar (g .point) ≡ true
   unfolding isScalar
-  point-scalar = rw (lt-ltb (g .point) 55296 point-below)
+  point-scalar = rw (lt-ltb (g .point) firstSurrogate point-below)
 
--- the code points of a character, by whether it has a mark
-module _ (g : Glyph) where
-  spelling-one : eqb (g .mark) 0 ≡ true → spelling g ≡ g .point ∷ []
-  unfolding spelling
-  spelling-one e = rw e
-
-  spelling-two : eqb (g .mark) 0 ≡ false → spelling g ≡ g .point ∷ g .mark ∷ []
-  unfolding spelling
-  spelling-two e = rw e
-
-  unmarked : eqb (g .mark) 0 ≡ true → single (g .point) ≡ g
-  unfolding single
-  unmarked e = λ i. record { point = g .point; mark = sym (eqb-true (g .mark) 0 e) i }
-
--- the reading back, by whether a mark follows
-markFirst : List ℕ → Bool
-markFirst [] = false
-markFirst (p ∷ ps) = isMark p
-
-glyphs-more : (p q : ℕ) (ps : List ℕ)
-    → glyphs (p ∷ q ∷ ps) ≡ elim (isMark q) [ true ↦ record { point = p; mark = q } ∷ glyphs ps | false ↦ single p ∷ glyphs (q ∷ ps) ]
-unfolding glyphs
-glyphs-more p q ps = refl
-
-glyphs-one : (p : ℕ) (ps : List ℕ) → markFirst ps ≡ false → glyphs (p ∷ ps) ≡ single p ∷ glyphs ps
-unfolding markFirst
-glyphs-one p [] e = unfold glyphs in refl
-glyphs-one p (q ∷ ps) e = rw e at (glyphs-more p q ps)
-
-glyphs-two : (p m : ℕ) (ps : List ℕ) → isMark m ≡ true → glyphs (p ∷ m ∷ ps) ≡ record { point = p; mark = m } ∷ glyphs ps
-glyphs-two p m ps e = rw e at (glyphs-more p m ps)
-
-no-mark-first : {gs : List Glyph} → All Spelled gs → markFirst (flatMap spelling gs) ≡ false
-unfolding markFirst flatMap spelling
-no-mark-first nil = refl
-no-mark-first (cons {x = g} e h) = point-base g e
-
--- reading back the code points of characters gives them
-pub glyphs-points : {gs : List Glyph} → All Spelled gs → glyphs (flatMap spelling gs) ≡ gs
-unfolding flatMap
-glyphs-points nil = unfold glyphs in refl
-glyphs-points (cons {x = g} {xs = gs} e h) =
-    by-test (eqb (g .mark) 0)
-    (λ f. rw (spelling-one g f) (glyphs-one (g .point) (flatMap spelling gs) (no-mark-first h) ∙ (λ i. unmarked g f i ∷ glyphs-points h i)))
-    (λ f.
-    rw (spelling-two g f)
-    (glyphs-two (g .point) (g .mark) (flatMap spelling gs) (mark-is g e f) ∙ ap (λ (l : List Glyph). g ∷ l) (glyphs-points h)))
-
--- what all numbers of a list pass, each of them passes
-one-of : (q : ℕ → Bool) (x : ℕ) (xs : List ℕ) → any (eqb x) xs ≡ true → all q xs ≡ true → q x ≡ true
-one-of q x [] e h = absurd (false-not-true (unfold any in e))
-one-of q x (y ∷ xs) e h =
-    let s = test-split q y xs h in
-    by-test (eqb x y)
-    (λ f. rw (eqb-true x y f) (s .0))
-    (λ f. one-of q x xs (rw (any-cons (eqb x) y xs, f) at e) (s .1))
-
--- and the code points of the characters that any code points spell are these: nothing is normalised, nothing lost
-marked-spelling : (p m : ℕ) → isMark m ≡ true → spelling (record { point = p; mark = m }) ≡ p ∷ m ∷ []
-unfolding isMark
-marked-spelling p m e =
-    spelling-two (record { point = p; mark = m }) (not-true (eqb m 0) (one-of (λ k. not (eqb k 0)) m marks e (unfold all marks in refl)))
-
-single-spelling : (p : ℕ) → spelling (single p) ≡ p ∷ []
-unfolding spelling single
-single-spelling p = refl
-
-pub points-glyphs : (ps : List ℕ) → flatMap spelling (glyphs ps) ≡ ps
-unfolding flatMap
-points-glyphs [] = unfold glyphs in refl
-points-glyphs (p ∷ []) = unfold glyphs in rw (single-spelling p)
-points-glyphs (p ∷ q ∷ ps) =
-    by-test (isMark q)
-    (λ e. rw (glyphs-two p q ps e, marked-spelling p q e) (ap (λ (l : List ℕ). p ∷ q ∷ l) (points-glyphs ps)))
-    (λ e. rw (glyphs-one p (q ∷ ps) (unfold markFirst in e), single-spelling p) (ap (λ (l : List ℕ). p ∷ l) (points-glyphs (q ∷ ps))))
-
--- the code points of characters are such that UTF-8 writes
-spelling-scalar : (g : Glyph) → Spelled g → All (λ (p : ℕ). isScalar p ≡ true) (spelling g)
-spelling-scalar g e =
-    by-test (eqb (g .mark) 0)
-    (λ f. rw (spelling-one g f) (cons (point-scalar g e) nil))
-    (λ f. rw (spelling-two g f) (cons (point-scalar g e) (cons (one-of isScalar (g .mark) marks (unfold isMark in mark-is g e f) (tables .3)) nil)))
-
-pub points-scalar : {gs : List Glyph} → All Spelled gs → All (λ (p : ℕ). isScalar p ≡ true) (flatMap spelling gs)
-unfolding flatMap
-points-scalar nil = nil
-points-scalar (cons {x = g} e h) = all-append (spelling-scalar g e) (points-scalar h)
-
--- and no mark opens them or follows a mark
-stand-one : (bare : Bool) (p : ℕ) (ps : List ℕ) → isMark p ≡ false → marksStand bare (p ∷ ps) ≡ marksStand true ps
-unfolding marksStand
-stand-one bare p ps e = rw (e, marksStand)
-
-stand-mark : (m : ℕ) (ps : List ℕ) → isMark m ≡ true → marksStand true (m ∷ ps) ≡ marksStand false ps
-unfolding marksStand
-stand-mark m ps e = rw (e, marksStand)
-
-pub marks-stand : (bare : Bool) {gs : List Glyph} → All Spelled gs → marksStand bare (flatMap spelling gs) ≡ true
-unfolding flatMap
-marks-stand bare nil = unfold marksStand in refl
-marks-stand bare (cons {x = g} {xs = gs} e h) =
-    by-test (eqb (g .mark) 0)
-    (λ f. rw (spelling-one g f) (stand-one bare (g .point) (flatMap spelling gs) (point-base g e) ∙ marks-stand true h))
-    (λ f.
-    rw (spelling-two g f)
-    (stand-one bare (g .point) _ (point-base g e) ∙ stand-mark (g .mark) (flatMap spelling gs) (mark-is g e f) ∙ marks-stand false h))
+  pub mark-scalar : eqb (g .mark) 0 ≡ false → isScalar (g .mark) ≡ true
+  mark-scalar f = one-of isScalar (g .mark) marks (unfold isMark in mark-is f) (tables .3)

@@ -17,9 +17,12 @@ use Rattle.meaning.specs.Walk.{Subtitle}
 use Rattle.meaning.specs.Document.{Span, Piece, Paragraph, Document, render}
 use Rattle.meaning.specs.Document.Piece.{span, br}
 
+abbrev pub firstSurrogate : ℕ
+firstSurrogate = 55296
+
 -- a code point that UTF-8 writes: no surrogate
 unfoldable pub isScalar : ℕ → Bool
-isScalar p = ltb p 55296 || (leb 57344 p && ltb p 1114112)
+isScalar p = ltb p firstSurrogate || (leb 57344 p && ltb p 1114112)
 
 -- no mark opens a span or follows a mark; `bare` tells that a code point that is no mark stands just before
 unfoldable pub marksStand : Bool → List ℕ → Bool
