@@ -1,2 +1,2 @@
 pub mod Stepping
-pub mod Looping
+pub mod Leaving

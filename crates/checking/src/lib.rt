@@ -5,11 +5,11 @@ ghost use Prim.Native.Nat.{_≤_};
 ghost use lib.ListN.{length};
 ghost use Rattle.meaning.specs.Walk.{setRule, finish, walk};
 ghost use Rattle.sets.specs.Assembling.{roomFor};
-ghost use Rattle.closed.specs.Body.{laySet};
-ghost use Rattle.checking.specs.Passing.{emptyBody, checkedOf};
-use blocks::NO_COUNTS;
+ghost use Rattle.closed.specs.Body.{emptyBody, laySet};
+ghost use Rattle.checking.specs.Passing.{checkedOf};
 use meaning::Counts;
 use meaning::Format;
+use meaning::GSI_SIZE;
 use meaning::Look;
 use meaning::Refusal;
 use sets::Sets;
@@ -18,7 +18,8 @@ use text::Tally;
 
 mod blocks;
 
-const NOTHING: Tally = Tally { at: 0, spans: 0 };
+pub use blocks::Pass;
+pub use blocks::check_more;
 
 // What pass one tells: a refusal, or the counts of blocks, how much is laid, and the looks in use.
 pub struct Checked {
@@ -33,30 +34,11 @@ fn check_with(file: &[u8], n: usize, f: Format, text: &mut [u8]) -> Checked
     requires { ⌜ roomFor n ≤ length (now text) ⌝ }
     ensures { λ r. ⌜ r ≡ checkedOf (finish n (walk f (setRule f) (laySet f) emptyBody (now (file .entry)) n)) ⌝ }
 {
-    let mut out = [0u8; 1];
+    let mut out = [0u8; 0];
     let mut on = [false; Look::COUNT];
-    let w = blocks::check_all(file, n, f, text, &mut out, &mut on, NOTHING);
-    let refusal = w.refusal;
-    if refusal.number != 0 {
-        let none = Marks {
-            on: [false; Look::COUNT],
-        };
-        return Checked {
-            refusal,
-            counts: NO_COUNTS,
-            tally: NOTHING,
-            marks: none,
-        };
-    }
-    let counts = w.counts;
-    let tally = w.tally;
-    let marks = Marks { on };
-    Checked {
-        refusal: Refusal::NONE,
-        counts,
-        tally,
-        marks,
-    }
+    let blocks = block::field(file, GSI_SIZE, file.len());
+    let w = check_more(blocks, n, 0, f, text, &mut out, &mut on, Pass::BEGUN);
+    w.checked(n as u64, Marks { on })
 }
 
 // The first n blocks of any file.

@@ -1,10 +1,11 @@
 -- What is laid over a buffer, and how a closed set is laid.
 -- Assumes nothing.
 use Prim.Native.Nat.{ℕ}
-use mathlib.Core.Bool.{Bool, cond}
+use mathlib.Core.Bool.{Bool, false, cond}
 use mathlib.Core.List.{List, [], _∷_, flatMap}
-use lib.ListN.{length}
+use lib.ListN.{length, replicate}
 use Rattle.meaning.specs.declared.Format.{Format}
+use Rattle.meaning.specs.Looks.{lookCount}
 use Rattle.meaning.specs.Blocks.{isComment}
 use Rattle.meaning.specs.Sets.{BlockSet}
 use Rattle.meaning.specs.Document.{Paragraph, writeParagraph, documentLooks}
@@ -18,6 +19,10 @@ pub record Body : Type 0 where
   pub out : List ℕ
   pub marks : List Bool
   pub tally : Tally
+
+-- nothing laid yet, with a buffer of no bytes: what is laid is only measured
+abbrev pub emptyBody : Body
+emptyBody = record { out = []; marks = replicate lookCount false; tally = record { at = 0; spans = 0 } }
 
 -- paragraphs laid behind what is there
 unfoldable pub laid : List Paragraph → Body → Body

@@ -39,8 +39,8 @@ use Rattle.text.proofs.Content.{content-whole}
 use Rattle.document.specs.Parts.{headOf, paragraphFor}
 use Rattle.text.specs.declared.Tally.{Tally}
 use Rattle.checking.specs.declared.Checked.{Checked}
-use Rattle.closed.specs.Body.{Body, laid, laySet}
-use Rattle.checking.specs.Passing.{emptyBody, checkedOf}
+use Rattle.closed.specs.Body.{Body, emptyBody, laid, laySet}
+use Rattle.checking.specs.Passing.{checkedOf}
 use Rattle.writing.specs.Laying.{Laying, layBlocks}
 use Rattle.convert.specs.Telling.{marksOf, measured, answerOf}
 use Rattle.meaning.proofs.RefusalLaws.{good-number, bad-number}

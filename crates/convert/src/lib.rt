@@ -20,7 +20,7 @@ use meaning::Refusal;
 use styles::Marks;
 use text::Tally;
 
-fn answer_refused(r: Refusal, needed: u64) -> Answer
+pub fn answer_refused(r: Refusal, needed: u64) -> Answer
     ensures { λ a. ⌜ a ≡ refusedAnswer r needed ⌝ }
 {
     Answer {
@@ -60,7 +60,7 @@ fn length_of(rate: u8, marks: Marks, body: usize) -> usize
 }
 
 // The answer by what pass one told, for a buffer of some length.
-fn answer_of(f: Format, c: Checked, room: usize) -> Answer
+pub fn answer_of(f: Format, c: Checked, room: usize) -> Answer
     ensures { λ a. ⌜ a ≡ answerOf f room c ⌝ }
 {
     let refusal = c.refusal;

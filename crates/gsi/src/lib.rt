@@ -2,12 +2,12 @@
 
 ghost use mathlib.Core.Path.{_≡_};
 ghost use mathlib.Core.Bool.{_&&_, _||_};
-ghost use Prim.Native.Nat.{_-_, _%_, _^_, _≤_, _<_};
-ghost use lib.Dec.{leb, eqb};
+ghost use Prim.Native.Nat.{_^_, _≤_, _<_};
+ghost use lib.Dec.{eqb};
 ghost use lib.ListN.{length, getD};
 ghost use Rattle.meaning.specs.Lists.{all, same};
-ghost use Rattle.meaning.specs.Blocks.{gsiSize, blockSize};
-ghost use Rattle.meaning.specs.Gsi.{rateOf, blockCount, isDigit, numberIn, tnbField, tnb, mnr, dsc, isTeletext, screenOf, formatOf, fileRule};
+ghost use Rattle.meaning.specs.Refusals.{firstBroken};
+ghost use Rattle.meaning.specs.Gsi.{rateOf, blockCount, isDigit, numberIn, tnbField, tnb, mnr, dsc, isTeletext, screenOf, formatOf, isWhole, gsiRules, fileRule};
 use block::field;
 use meaning::BLOCK_SIZE;
 use meaning::Format;
@@ -78,7 +78,7 @@ fn is_either(x: u64, a: u64, b: u64) -> bool
 }
 
 fn is_whole(size: usize) -> bool
-    ensures { λ r. ⌜ r ≡ (leb gsiSize size && eqb ((size - gsiSize) % blockSize) 0) ⌝ }
+    ensures { λ r. ⌜ r ≡ isWhole size ⌝ }
 {
     if size < GSI_SIZE {
         return false;
@@ -120,12 +120,12 @@ fn read_decimal(digits: &[u8]) -> Decimal
     Decimal { valid: true, value }
 }
 
-// TNB is five digits and gives the number of blocks present.
-fn counts_blocks(file: &[u8]) -> bool
-    ensures { λ r. ⌜ r ≡ (all isDigit (tnbField (now (file .entry))) && eqb (tnb (now (file .entry))) (blockCount (now (file .entry)))) ⌝ }
+// TNB is five digits and gives the number of blocks.
+fn counts_blocks(gsi: &[u8], count: usize) -> bool
+    ensures { λ r. ⌜ r ≡ (all isDigit (tnbField (now (gsi .entry))) && eqb (tnb (now (gsi .entry))) count) ⌝ }
 {
-    let tnb = read_decimal(field(file, TNB_AT, 5));
-    tnb.valid & (tnb.value == block_count(file))
+    let tnb = read_decimal(field(gsi, TNB_AT, 5));
+    tnb.valid & (tnb.value == count)
 }
 
 // MNR, 0 where one of its bytes is no digit.
@@ -175,19 +175,18 @@ pub fn format(file: &[u8], mode: u64) -> Format
     }
 }
 
-// The first of the rules 1 to 6 that a break mode and a file break.
-pub fn file_rule(file: &[u8], mode: u64) -> Refusal
-    ensures { λ r. ⌜ r ≡ fileRule mode (now (file .entry)) ⌝ }
+// The first of the rules 1 to 6 that is broken, by the GSI block, the break mode, the file's end, whether it has whole blocks,
+// and how many.
+pub fn gsi_rule(gsi: &[u8], mode: u64, end: u64, whole: bool, count: usize) -> Refusal
+    ensures { λ r. ⌜ r ≡ firstBroken 0 (gsiRules mode end whole count (now (gsi .entry))) ⌝ }
 {
     let known_mode = is_either(mode, 1, 2);
-    let whole = is_whole(file.len());
-    let rated = rate(file) != 0;
-    let teletext = is_teletext(file);
-    let dsc = dsc(file);
-    let latin = same(field(file, CCT_AT, 2), b"00");
-    let counted = counts_blocks(file);
-    let rows = mnr(file);
-    let end = file.len() as u64;
+    let rated = rate(gsi) != 0;
+    let teletext = is_teletext(gsi);
+    let dsc = dsc(gsi);
+    let latin = same(field(gsi, CCT_AT, 2), b"00");
+    let counted = counts_blocks(gsi, count);
+    let rows = mnr(gsi);
     let rule = Refusal::NONE.or(0, 1, end, known_mode);
     let rule = rule.or(0, 2, end, whole);
     let rule = rule.or(0, 3, DFC_AT as u64, rated);
@@ -195,4 +194,12 @@ pub fn file_rule(file: &[u8], mode: u64) -> Refusal
     let rule = rule.or(0, 5, CCT_AT as u64, latin);
     let rule = rule.or(0, 6, TNB_AT as u64, counted);
     rule.or(0, 6, MNR_AT as u64, teletext | (1 <= rows))
+}
+
+// The first of them that a break mode and a file break.
+pub fn file_rule(file: &[u8], mode: u64) -> Refusal
+    ensures { λ r. ⌜ r ≡ fileRule mode (now (file .entry)) ⌝ }
+{
+    let size = file.len();
+    gsi_rule(file, mode, size as u64, is_whole(size), block_count(file))
 }

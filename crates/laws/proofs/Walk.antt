@@ -195,7 +195,7 @@ module _ {A : Type 0} (f : Format) (rule : BlockSet → Refusal) (add : BlockSet
       (λ g. rw (g, judge) (record { counts = t; fits = λ q z. absurd (none-not-some (sym h ∙ z)) }))
       (λ g. rw (g, judge) tt)
 
-  step-within : (k : ℕ) (o : Outcome A) (b : List ℕ) → Unit {0} → WithinIf k o → WithinIf (suc k) (step f rule add k o b)
+  pub step-within : (k : ℕ) (o : Outcome A) (b : List ℕ) → Unit {0} → WithinIf k o → WithinIf (suc k) (step f rule add k o b)
   unfolding step
   step-within k (refused r) b u h = tt
   step-within k (accepted p) b u h =
@@ -203,7 +203,7 @@ module _ {A : Type 0} (f : Format) (rule : BlockSet → Refusal) (add : BlockSet
       (total-counted (isOpen (p .assembly)) (headerOf b) (p .counts) ∙ ap suc (h .counts))
       (advance-fits f k b (p .assembly) (h .fits))
 
-  start-within : (x : A) → Within 0 (begun x)
+  pub start-within : (x : A) → Within 0 (begun x)
   unfolding begun noBlocks total noCounts
   start-within x = record { counts = refl; fits = λ s g. absurd (none-not-some g) }
 

@@ -81,17 +81,26 @@ screenOf file = cond (isTeletext file) (record { first = 1; end = 24 }) (record 
 unfoldable pub formatOf : ℕ → List ℕ → Format
 formatOf mode file = record { mode = mode; rate = rateOf file; screen = screenOf file; teletext = isTeletext file }
 
--- the rules 1 to 6, each with the offset of its field; 1 and 2 have none, and stand at the file's end. MNR is read in files of open subtitles only.
-unfoldable pub fileRules : ℕ → List ℕ → List Rule
-fileRules mode file =
-    (1, length file, eqb mode 1 || eqb mode 2)
-    ∷ (2, length file, leb gsiSize (length file) && eqb ((length file - gsiSize) % blockSize) 0)
-    ∷ (3, dfcAt, isRate (rateOf file))
-    ∷ (4, dscAt, isTeletext file || eqb (dsc file) 48)
-    ∷ (5, cctAt, same (field cctAt 2 file) (bytes "00"))
-    ∷ (6, tnbAt, all isDigit (tnbField file) && eqb (tnb file) (blockCount file))
-    ∷ (6, mnrAt, isTeletext file || leb 1 (mnr file))
+-- a file's length is that of the GSI block and of whole blocks
+abbrev pub isWhole : ℕ → Bool
+isWhole n = leb gsiSize n && eqb ((n - gsiSize) % blockSize) 0
+
+-- the rules 1 to 6 by the break mode, the file's end, whether it has whole blocks, how many, and the GSI block. Each has the offset of its
+-- field; 1 and 2 have none, and stand at the file's end. MNR is read in files of open subtitles only.
+abbrev pub gsiRules : ℕ → ℕ → Bool → ℕ → List ℕ → List Rule
+gsiRules mode end whole count gsi =
+    (1, end, eqb mode 1 || eqb mode 2)
+    ∷ (2, end, whole)
+    ∷ (3, dfcAt, isRate (rateOf gsi))
+    ∷ (4, dscAt, isTeletext gsi || eqb (dsc gsi) 48)
+    ∷ (5, cctAt, same (field cctAt 2 gsi) (bytes "00"))
+    ∷ (6, tnbAt, all isDigit (tnbField gsi) && eqb (tnb gsi) count)
+    ∷ (6, mnrAt, isTeletext gsi || leb 1 (mnr gsi))
     ∷ []
+
+-- those of a file: its fields stand at its front
+unfoldable pub fileRules : ℕ → List ℕ → List Rule
+fileRules mode file = gsiRules mode (length file) (isWhole (length file)) (blockCount file) file
 
 -- the first of them that a break mode and a file break
 unfoldable pub fileRule : ℕ → List ℕ → Refusal

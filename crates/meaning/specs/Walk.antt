@@ -30,15 +30,18 @@ unfoldable pub total : Counts → ℕ
 total c = c .subtitles + c .comments + c .continuations + c .users
 
 -- one block more, where a set is open or not: each block raises one count, and a set is counted at its first block
-unfoldable pub counted : Bool → Header → Counts → Counts
-counted inSet h c =
+abbrev pub countedBy : (ℕ → ℕ) → Bool → Header → Counts → Counts
+countedBy more inSet h c =
     cond (isUser h)
-    (record { subtitles = c .subtitles; comments = c .comments; continuations = c .continuations; users = suc (c .users) })
+    (record { subtitles = c .subtitles; comments = c .comments; continuations = c .continuations; users = more (c .users) })
     (cond inSet
-    (record { subtitles = c .subtitles; comments = c .comments; continuations = suc (c .continuations); users = c .users })
+    (record { subtitles = c .subtitles; comments = c .comments; continuations = more (c .continuations); users = c .users })
     (cond (isComment h)
-    (record { subtitles = c .subtitles; comments = suc (c .comments); continuations = c .continuations; users = c .users })
-    (record { subtitles = suc (c .subtitles); comments = c .comments; continuations = c .continuations; users = c .users })))
+    (record { subtitles = c .subtitles; comments = more (c .comments); continuations = c .continuations; users = c .users })
+    (record { subtitles = more (c .subtitles); comments = c .comments; continuations = c .continuations; users = c .users })))
+
+unfoldable pub counted : Bool → Header → Counts → Counts
+counted inSet h c = countedBy suc inSet h c
 
 unfoldable pub isOpen : Assembly → Bool
 isOpen a = elim (a .current) [ none ↦ false | some s ↦ true ]
