@@ -1,4 +1,5 @@
-/* The proved converter from EBU STL to EBU-TT, and the reason for a refusal, for callers in C. Link libmilursake.a. */
+/* The proved converter from EBU STL to EBU-TT, the reason for a refusal, and a check in lumps, for callers in C. Link
+   libmilursake.a. */
 #ifndef MILURSAKE_H
 #define MILURSAKE_H
 
@@ -46,6 +47,34 @@ uint64_t milursake_convert(const uint8_t *file, size_t file_len, uint64_t mode, 
  */
 uint64_t milursake_explain(const uint8_t *file, size_t file_len, uint64_t mode, uint64_t room, uint64_t *reason,
                            size_t reason_len);
+
+/*
+ * Checks a file that comes in lumps: open once, feed lump after lump, close. Closing gives the answer of milursake_convert on
+ * the joined file for a buffer of `room` bytes, however the file was cut; nothing is converted. What is said above of
+ * buffers, pointers and the stack holds here too.
+ *
+ * The caller owns the store, MILURSAKE_CHECK_STORE bytes, and keeps it from call to call; nothing else is kept. It needs no
+ * alignment and holds no pointers: between two calls it may be moved or copied, and each copy goes on by itself. Two checks
+ * may run at the same time, each on a store of its own.
+ *
+ * open     starts anew, whatever stands in the store; `mode` and `room` as above
+ * feed     takes the next bytes of the file, any number of them or none; `lump` is only read
+ * close    returns the number; `answer` as for milursake_convert
+ *
+ * After the close, feeding and closing change nothing, and closing repeats the answer. What is closed early is answered as
+ * the file that was fed so far.
+ *
+ * A store of another length is left as it is, by all three. So is one that is no state of an opened check, by feed and close.
+ * Closing either is answered as for break mode 0: number 1, the rest 0. A store whose bytes the caller changes may still pass
+ * for a check; its answer is then that of no file, and nothing but the store and `answer` is written.
+ */
+#define MILURSAKE_CHECK_STORE 28936
+
+void milursake_check_open(uint8_t *store, size_t store_len, uint64_t mode, uint64_t room);
+
+void milursake_check_feed(uint8_t *store, size_t store_len, const uint8_t *lump, size_t lump_len);
+
+uint64_t milursake_check_close(uint8_t *store, size_t store_len, uint64_t *answer, size_t answer_len);
 
 #ifdef __cplusplus
 }

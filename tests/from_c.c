@@ -1,7 +1,7 @@
 /*
- * Calls the converter and the explainer from C, as the header says, on a stack that was painted before: `from_c FILE...`.
- * Prints for each file how much of the stack was used. Status 1 if that is not less than the header says, or if the two
- * do not agree.
+ * Calls the converter, the explainer and the check from C, as the header says, on a stack that was painted before:
+ * `from_c FILE...`. Prints for each file how much of the stack was used. Status 1 if that is not less than the header says,
+ * or if they do not agree.
  */
 #define _XOPEN_SOURCE 700
 #include "milursake.h"
@@ -10,18 +10,22 @@
 #include <stdlib.h>
 #include <string.h>
 
-enum { STACK = 1 << 20, PAINT = 0xA5, GSI = 1024, BLOCK = 128, SET = 241, MOST = 99999, ROOM = 1 << 24 };
+enum { STACK = 1 << 20, PAINT = 0xA5, GSI = 1024, BLOCK = 128, SET = 241, MOST = 99999, ROOM = 1 << 24, LUMP = 1000 };
+
+enum what { CONVERT, EXPLAIN, CHECK, WHATS };
+
+static const char *const done[] = {"converted", "explained", "checked"};
 
 struct call {
     const uint8_t *file;
     size_t length;
-    int explains;
-    uint64_t number;
+    enum what what;
+    uint64_t number, answer[8];
     size_t used;
 };
 
 static _Alignas(4096) uint8_t stack[STACK];
-static uint8_t file[GSI + MOST * BLOCK], out[ROOM];
+static uint8_t file[GSI + MOST * BLOCK], out[ROOM], store[MILURSAKE_CHECK_STORE];
 
 /* The reason for the answer: a file is named by its length where it is accepted. */
 static uint64_t explain(const struct call *call)
@@ -33,25 +37,41 @@ static uint64_t explain(const struct call *call)
     return number;
 }
 
-/* Paints the stack below its own frame, converts or explains, and looks how far the paint is gone. */
+/* The check for a buffer as long as that of the converter; the store is what the check before it left. */
+static uint64_t check(struct call *call)
+{
+    milursake_check_open(store, sizeof store, 1, sizeof out);
+    for (size_t at = 0; at < call->length; at += LUMP)
+        milursake_check_feed(store, sizeof store, call->file + at, call->length - at < LUMP ? call->length - at : LUMP);
+    return milursake_check_close(store, sizeof store, call->answer, 8);
+}
+
+static uint64_t answer(struct call *call)
+{
+    if (call->what == EXPLAIN)
+        return explain(call);
+    if (call->what == CHECK)
+        return check(call);
+    return milursake_convert(call->file, call->length, 1, out, sizeof out, call->answer, 8);
+}
+
+/* Paints the stack below its own frame, calls, and looks how far the paint is gone. */
 static void *run(void *given)
 {
     struct call *call = given;
     uint8_t *here = __builtin_frame_address(0), *deepest = stack;
-    uint64_t answer[8];
     for (volatile uint8_t *byte = stack; byte < here - 512; byte++)
         *byte = PAINT;
-    call->number = call->explains ? explain(call)
-                                  : milursake_convert(call->file, call->length, 1, out, sizeof out, answer, 8);
+    call->number = answer(call);
     while (*deepest == PAINT)
         deepest++;
     call->used = (size_t)(here - deepest);
     return NULL;
 }
 
-static struct call called(size_t length, int explains)
+static struct call called(size_t length, enum what what)
 {
-    struct call call = {file, length, explains, 0, 0};
+    struct call call = {.file = file, .length = length, .what = what};
     pthread_attr_t attributes;
     pthread_t thread;
     if (pthread_attr_init(&attributes) || pthread_attr_setstack(&attributes, stack, sizeof stack) ||
@@ -60,23 +80,31 @@ static struct call called(size_t length, int explains)
     return call;
 }
 
-static void fits(const char *name, struct call call)
+static void fits(const char *name, const struct call *call)
 {
-    printf("%s: %s number %d, %zu bytes of stack\n", name, call.explains ? "explained," : "converted,", (int)call.number,
-           call.used);
-    if (call.used >= MILURSAKE_STACK)
+    printf("%s: %s, number %d, %zu bytes of stack\n", name, done[call->what], (int)call->number, call->used);
+    if (call->used >= MILURSAKE_STACK)
         exit(1);
 }
 
-/* Both calls over what stands in `file`; gives that of the converter. */
-static struct call both(const char *name, size_t length)
+/* The calls over what stands in `file`, one of each. */
+struct calls {
+    struct call of[WHATS];
+};
+
+/* The numbers are one, and all eight of the converter and the check. */
+static struct calls all(const char *name, size_t length)
 {
-    struct call converted = called(length, 0), explained = called(length, 1);
-    fits(name, converted);
-    fits(name, explained);
-    if (converted.number != explained.number)
+    struct calls calls;
+    for (int what = 0; what < WHATS; what++) {
+        calls.of[what] = called(length, what);
+        fits(name, &calls.of[what]);
+        if (calls.of[what].number != calls.of[CONVERT].number)
+            exit(1);
+    }
+    if (memcmp(calls.of[CHECK].answer, calls.of[CONVERT].answer, sizeof calls.of[CONVERT].answer))
         exit(1);
-    return converted;
+    return calls;
 }
 
 static size_t read_file(const char *name)
@@ -126,10 +154,16 @@ static size_t longest_sets(int sets)
     return GSI + (size_t)sets * SET * BLOCK;
 }
 
+/* Both are accepted, and the longer file needs no more of the stack. */
+static int alike(const struct call *one, const struct call *many)
+{
+    return one->number == 0 && many->number == 0 && one->used == many->used;
+}
+
 int main(int count, char **names)
 {
     for (int i = 1; i < count; i++)
-        both(names[i], read_file(names[i]));
-    struct call one = both("a set of 241 blocks", longest_sets(1)), many = both("414 such sets", longest_sets(MOST / SET));
-    return one.number || many.number || one.used != many.used;
+        all(names[i], read_file(names[i]));
+    struct calls one = all("a set of 241 blocks", longest_sets(1)), many = all("414 such sets", longest_sets(MOST / SET));
+    return !alike(&one.of[CONVERT], &many.of[CONVERT]) || !alike(&one.of[CHECK], &many.of[CHECK]);
 }

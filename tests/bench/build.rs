@@ -1,13 +1,19 @@
 //! Links an earlier proved library too, if MILURSAKE_BEFORE names the directory
 //! that holds it: libmilursake.a, or libconvert.a as it was called once. Its
-//! functions get other names, so that both can be linked; an earlier one may have
-//! no milursake_explain, which does not matter.
+//! functions get other names, so that both can be linked; an earlier one may not
+//! have all of them, which does not matter.
 
 use std::path::{Path, PathBuf};
 use std::process::Command;
 
 const NAMES: [&str; 2] = ["libmilursake.a", "libconvert.a"];
-const FUNCTIONS: [&str; 2] = ["milursake_convert", "milursake_explain"];
+const FUNCTIONS: [&str; 5] = [
+    "milursake_convert",
+    "milursake_explain",
+    "milursake_check_open",
+    "milursake_check_feed",
+    "milursake_check_close",
+];
 
 fn main() {
     println!("cargo:rustc-check-cfg=cfg(before)");

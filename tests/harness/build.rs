@@ -1,7 +1,11 @@
 //! Links the proved library: MILURSAKE_LIB names the directory that holds
-//! libmilursake.a.
+//! libmilursake.a. Tells the length of a check's store, which the header has.
 
+use std::fs;
 use std::path::Path;
+
+const HEADER: &str = "../../include/milursake.h";
+const STORE: &str = "MILURSAKE_CHECK_STORE";
 
 fn main() {
     println!("cargo:rerun-if-env-changed=MILURSAKE_LIB");
@@ -14,4 +18,14 @@ fn main() {
     println!("cargo:rerun-if-changed={}", archive.display());
     println!("cargo:rustc-link-search=native={directory}");
     println!("cargo:rustc-link-lib=static=milursake");
+    println!("cargo:rerun-if-changed={HEADER}");
+    println!("cargo:rustc-env={STORE}={}", store_length());
+}
+
+/// The plain decimal number behind the name.
+fn store_length() -> usize {
+    let header = fs::read_to_string(HEADER).expect("the header is there");
+    let defined = header.lines().find_map(|line| line.strip_prefix("#define ")?.strip_prefix(STORE));
+    let length = defined.and_then(|length| length.trim().parse().ok());
+    length.unwrap_or_else(|| panic!("{HEADER} has no number for {STORE}"))
 }

@@ -1,12 +1,15 @@
-// The converter, and the reason for a refusal, for callers in other languages.
+// The converter, the reason for a refusal, and the check that is fed in lumps, for callers in other languages.
 
 ghost use mathlib.Core.Path.{_≡_};
+ghost use mathlib.Core.Bool.{false};
 ghost use lib.ListN.{length, set};
 ghost use Rattle.meaning.specs.Conversion.{answer, output};
 ghost use Rattle.laws.specs.Demands.{FewestSpans};
 ghost use Rattle.output.specs.Output.{stored};
 ghost use Rattle.reasons.specs.Explained.{Told};
 ghost use Rattle.meaning.specs.Reasons.{reason};
+ghost use Rattle.store.specs.Stores.{checkOf};
+ghost use Rattle.streamed.specs.Checks.{openedIn, fedIn, closedIn, answerIn, isRunning, openedStore, storeClosed};
 ghost use Rattle.milursake.specs.Numbers.{numbersOf, presenceOf, valueOf, reasonNumbers};
 use meaning::Answer;
 use meaning::FileByte;
@@ -97,4 +100,35 @@ pub extern "C" fn milursake_explain(file: &[u8], mode: u64, room: u64, numbers: 
     let r = explain::explain(file, mode, room as usize);
     put_reason(numbers, r);
     r.number
+}
+
+// Starts a check with a break mode and a room, on a store of streamed::SIZE bytes; another store is left as it is.
+#[no_mangle]
+pub extern "C" fn milursake_check_open(store: &mut [u8], mode: u64, room: u64)
+    ensures check { λ _. ⌜ checkOf (now (store .exit)) ≡ openedIn (length (now (store .entry))) mode room ⌝ }
+    ensures store { λ _. ⌜ now (store .exit) ≡ openedStore mode room (now (store .entry)) ⌝ }
+{
+    streamed::open_check(store, mode, room);
+}
+
+// A lump of the file, for an open check; a store that is none of an open check is left as it is.
+#[no_mangle]
+pub extern "C" fn milursake_check_feed(store: &mut [u8], lump: &[u8])
+    ensures check { λ _. ⌜ checkOf (now (store .exit)) ≡ fedIn (checkOf (now (store .entry))) (now (lump .entry)) ⌝ }
+    ensures kept { λ _. ⌜ (isRunning (checkOf (now (store .entry))) ≡ false → now (store .exit) ≡ now (store .entry)) ⌝ }
+{
+    streamed::feed_check(store, lump);
+}
+
+// Closes a check: the refusal's number, or 0. As much of the answer as `numbers` has room for is stored there.
+#[no_mangle]
+pub extern "C" fn milursake_check_close(store: &mut [u8], numbers: &mut [u64]) -> u64
+    ensures number { λ r. ⌜ r ≡ answerIn (checkOf (now (store .entry))) .number ⌝ }
+    ensures stored { λ r. ⌜ now (numbers .exit) ≡ stored (now (numbers .entry)) 0 (numbersOf (answerIn (checkOf (now (store .entry))))) ⌝ }
+    ensures check { λ _. ⌜ checkOf (now (store .exit)) ≡ closedIn (checkOf (now (store .entry))) ⌝ }
+    ensures store { λ _. ⌜ now (store .exit) ≡ storeClosed (now (store .entry)) ⌝ }
+{
+    let a = streamed::close_check(store);
+    put_answer(numbers, a);
+    a.number
 }

@@ -43,6 +43,12 @@ pub fn inputs() -> Vec<Input> {
     ]
 }
 
+/// Files of growing length.
+pub fn growing() -> Vec<Input> {
+    let of = |name, blocks| Input { name, file: file(25, &long(&mut Dice::new(SEED), blocks)) };
+    vec![of("100 blocks", 100), of("1,000 blocks", 1000), of(SHORTER, 10_000)]
+}
+
 /// Films that are refused for a text fault in their last set.
 pub fn refused() -> Vec<Input> {
     let good = film(&mut Dice::new(SEED), 1500);

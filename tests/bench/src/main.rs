@@ -1,31 +1,40 @@
 //! The proved converter and the second converter on the same inputs, in turn, and
 //! with them an earlier proved one if MILURSAKE_BEFORE names its library; then the
-//! proved explainer beside the proved converter on refused files. Prints tables in
-//! Markdown. Status 1 if the explanation of a film takes more than twice as long
-//! as its conversion.
+//! proved explainer beside the proved converter on refused files, and the proved
+//! check, fed in lumps. Prints tables in Markdown. Status 1 if the explanation of a
+//! film takes more than twice as long as its conversion.
 //!
 //! `bench files DIR` writes the inputs to files; `bench
-//! proved|second|before|explain FILE N` takes a file N times and does nothing
-//! else, for a profiler.
+//! proved|second|before|explain|whole|check FILE N` takes a file N times and does
+//! nothing else, for a profiler.
 
 mod before;
 mod converter;
+mod figures;
 mod inputs;
+mod lumps;
+mod pair;
 mod reasons;
 mod single;
 mod words;
 
 use before::BEFORE;
 use converter::Race;
-use inputs::{inputs, longest_refused, refused, LARGEST, SHORTER};
-use reasons::{Reason, MOST};
+use figures::{grouped, nanoseconds_each, ratio, speed};
+use inputs::{growing, inputs, longest_refused, refused, LARGEST, SHORTER};
+use lumps::{print_lumps, Bytes};
+use pair::Pair;
+use reasons::{print_reasons, Reason, MOST};
 use std::process::ExitCode;
 use std::time::{Duration, Instant};
 
 /// Rounds over all inputs; the best counts, because whatever else runs can only
 /// make a conversion longer. Fewer if they take too long.
 const ROUNDS: usize = 60;
-const LONGEST: Duration = Duration::from_secs(40);
+const LONGEST: Duration = Duration::from_secs(60);
+
+/// In so many rounds the files are fed byte by byte once, which takes long.
+const ROUNDS_PER_BYTES: usize = 10;
 
 fn main() -> ExitCode {
     let arguments: Vec<String> = std::env::args().skip(1).collect();
@@ -36,13 +45,19 @@ fn main() -> ExitCode {
     let mut races: Vec<Race> = inputs().into_iter().map(Race::new).collect();
     let mut films: Vec<Reason> = refused().into_iter().map(Reason::new).collect();
     let mut longest: Vec<Reason> = longest_refused().into_iter().map(Reason::new).collect();
+    let mut lumps: Vec<Pair> = inputs().into_iter().map(lumps::pair).collect();
+    let mut bytes: Vec<Bytes> = growing().into_iter().map(Bytes::new).collect();
     let start = Instant::now();
     let mut rounds = 0;
     // Round after round over all inputs, so that a slow spell does not fall on
     // one of them alone.
     while rounds < ROUNDS && (rounds == 0 || start.elapsed() < LONGEST) {
         races.iter_mut().for_each(|race| race.measure(rounds));
-        films.iter_mut().chain(&mut longest).for_each(|reason| reason.measure(rounds));
+        films.iter_mut().chain(&mut longest).for_each(|reason| reason.pair.measure(rounds));
+        lumps.iter_mut().for_each(|pair| pair.measure(rounds));
+        if rounds.is_multiple_of(ROUNDS_PER_BYTES) {
+            bytes.iter_mut().for_each(Bytes::measure);
+        }
         rounds += 1;
     }
     print_speeds(&races, rounds);
@@ -52,8 +67,10 @@ fn main() -> ExitCode {
         print_growth(shorter, largest);
     }
     println!();
-    let highest = films.iter().map(Reason::ratio).fold(0.0, f64::max);
+    let highest = films.iter().map(|reason| reason.pair.ratio()).fold(0.0, f64::max);
     print_reasons(films.iter().chain(&longest), highest);
+    println!();
+    print_lumps(&lumps, &bytes);
     if highest <= MOST {
         ExitCode::SUCCESS
     } else {
@@ -104,63 +121,20 @@ fn print_growth(shorter: &Race, largest: &Race) {
     let (few, many) = (shorter.input.blocks(), largest.input.blocks());
     println!("| Time per block | {} blocks, ns | {} blocks, ns | Factor |", grouped(few), grouped(many));
     println!("|---|---:|---:|---:|");
-    print_factor("proved", per_block(few, shorter.proved.best), per_block(many, largest.proved.best));
-    print_factor("second", per_block(few, shorter.second.best), per_block(many, largest.second.best));
+    print_factor(
+        "proved",
+        nanoseconds_each(few, shorter.proved.best),
+        nanoseconds_each(many, largest.proved.best),
+    );
+    print_factor(
+        "second",
+        nanoseconds_each(few, shorter.second.best),
+        nanoseconds_each(many, largest.second.best),
+    );
     println!();
     println!("Factor: 1 is the straight line, {:.0} would be the square.", many as f64 / few as f64);
 }
 
 fn print_factor(name: &str, short: f64, long: f64) {
     println!("| {name} | {short:.0} | {long:.0} | {:.2} |", long / short);
-}
-
-fn print_reasons<'a>(reasons: impl Iterator<Item = &'a Reason>, highest: f64) {
-    println!("| Refused input | Number | Blocks | Converter, µs | Explainer, µs | Ratio |");
-    println!("|---|---:|---:|---:|---:|---:|");
-    for reason in reasons {
-        println!(
-            "| {} | {} | {} | {:.1} | {:.1} | {:.2} |",
-            reason.input.name,
-            reason.number,
-            grouped(reason.input.blocks()),
-            microseconds(reason.convert.best),
-            microseconds(reason.explain.best),
-            reason.ratio(),
-        );
-    }
-    println!();
-    println!("Both proved, on the same file in turn. Ratio: how many times as long as the conversion the");
-    println!("explanation takes; at most {MOST} is asked of films, and their highest is {highest:.2}. The");
-    println!("longest set has 241 full blocks and is the whole file, so its text is most of the work.");
-}
-
-fn microseconds(time: Duration) -> f64 {
-    1e6 * time.as_secs_f64()
-}
-
-/// Nanoseconds per block.
-fn per_block(blocks: usize, time: Duration) -> f64 {
-    1e9 * time.as_secs_f64() / blocks as f64
-}
-
-/// How many times as fast as `other` the one is that takes `time`.
-fn ratio(other: Duration, time: Duration) -> f64 {
-    other.as_secs_f64() / time.as_secs_f64()
-}
-
-fn speed(bytes: usize, time: Duration) -> f64 {
-    bytes as f64 / time.as_secs_f64() / 1e6
-}
-
-/// 12,345,678
-fn grouped(number: usize) -> String {
-    let digits = number.to_string();
-    let mut text = String::new();
-    for (at, digit) in digits.chars().enumerate() {
-        if at > 0 && (digits.len() - at).is_multiple_of(3) {
-            text.push(',');
-        }
-        text.push(digit);
-    }
-    text
 }

@@ -1,9 +1,11 @@
 //! The inputs as files, and one converter alone.
 
 use crate::before::BEFORE;
-use crate::converter::{by_proved, by_second, room};
+use crate::converter::{by_proved, by_second, room, Convert};
 use crate::inputs::{inputs, longest_refused, refused};
+use crate::lumps::{by_check, by_whole};
 use crate::reasons::by_explainer;
+use harness::CHECK_STORE;
 use std::hint::black_box;
 use std::path::Path;
 
@@ -12,7 +14,7 @@ pub fn run(arguments: &[String]) {
     match arguments[..] {
         ["files", directory] => write_files(Path::new(directory)),
         [converter, file, times] => convert(converter, file, times.parse().expect("a number")),
-        _ => panic!("usage: bench [files DIR | proved|second|before|explain FILE N]"),
+        _ => panic!("usage: bench [files DIR | proved|second|before|explain|whole|check FILE N]"),
     }
 }
 
@@ -24,16 +26,23 @@ fn write_files(directory: &Path) {
 }
 
 fn convert(converter: &str, file: &str, times: usize) {
-    let convert = match converter {
-        "proved" => by_proved,
-        "second" => by_second,
-        "before" => BEFORE.expect("MILURSAKE_BEFORE was not set when this was built"),
-        "explain" => by_explainer,
-        _ => panic!("no such converter: {converter}"),
-    };
     let file = std::fs::read(file).expect("a file");
-    let mut out = vec![0; room(&file)];
+    let (convert, buffer) = named(converter, &file);
+    let mut out = vec![0; buffer];
     for _ in 0..times {
         black_box(convert(black_box(&file), black_box(&mut out)));
+    }
+}
+
+/// The function, and the length of the buffer it takes.
+fn named(converter: &str, file: &[u8]) -> (Convert, usize) {
+    match converter {
+        "proved" => (by_proved, room(file)),
+        "second" => (by_second, room(file)),
+        "before" => (BEFORE.expect("MILURSAKE_BEFORE was not set when this was built"), room(file)),
+        "explain" => (by_explainer, room(file)),
+        "whole" => (by_whole, 0),
+        "check" => (by_check, CHECK_STORE),
+        _ => panic!("no such converter: {converter}"),
     }
 }

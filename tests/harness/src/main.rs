@@ -1,13 +1,19 @@
-//! Compares the proved converter with the second one, and what both say to "Tell
-//! me why": `harness [N] [FIRST]`, every accent before every code first, then N
-//! files (200,000) from seed FIRST (0).
+//! Compares the proved converter with the second one, what both say to "Tell me
+//! why", and the answers of the proved check, which is fed in lumps: `harness [N]
+//! [FIRST]`, every accent before every code and long files first, then N files
+//! (200,000) from seed FIRST (0).
 //!
 //! Status 1 if any answer, any byte of a buffer or any reason differs, or if the
 //! files are too much of one kind to say anything.
 
+mod checks;
 mod compare;
+mod long;
+mod lumps;
+mod odd_checks;
 mod pairs;
 mod reasons;
+mod store;
 
 use compare::compare;
 use second::make::{sample, Sample};
@@ -33,11 +39,16 @@ fn main() -> ExitCode {
     };
     let pairs = pairs::compare_all();
     pairs.print();
+    let mut checks = checks::Tally::default();
+    checks.try_pairs();
+    long::try_long_files(&mut checks);
     let mut tally = [0u64; 17];
     let mut differences = 0u64;
     let mut first_difference = None;
     for seed in first..first + files {
-        let (number, difference) = try_seed(seed);
+        let sample = sample(seed);
+        let (number, difference) = try_seed(&sample, seed);
+        checks.try_seed(&sample.file, sample.mode, seed);
         tally[number as usize] += 1;
         if let Some(difference) = difference {
             differences += 1;
@@ -48,9 +59,10 @@ fn main() -> ExitCode {
     if let Some((seed, difference)) = first_difference {
         println!("first difference: seed {seed}, {difference}");
     }
+    checks.print();
     let broad = files < ENOUGH_TO_JUDGE || is_broad(&tally, files);
     println!("harness: {files} files, {} accepted, {differences} differences", tally[0]);
-    if broad && differences == 0 && pairs.differences == 0 {
+    if broad && differences == 0 && pairs.differences == 0 && checks.differences == 0 {
         ExitCode::SUCCESS
     } else {
         ExitCode::FAILURE
@@ -70,14 +82,13 @@ fn arguments() -> Option<(u64, u64)> {
 }
 
 /// The number of the answer, and the first difference if there is one.
-fn try_seed(seed: u64) -> (u64, Option<String>) {
-    let sample = sample(seed);
-    let (number, difference) = compare(&sample, sample.room, 8, seed);
-    let difference = difference.map(|difference| difference.to_string()).or_else(|| reason(&sample, seed));
+fn try_seed(sample: &Sample, seed: u64) -> (u64, Option<String>) {
+    let (number, difference) = compare(sample, sample.room, 8, seed);
+    let difference = difference.map(|difference| difference.to_string()).or_else(|| reason(sample, seed));
     if difference.is_some() || !seed.is_multiple_of(ODD_CALLS) {
         return (number, difference);
     }
-    (number, odd_calls(&sample, seed).or_else(|| odd_reasons(&sample, seed)))
+    (number, odd_calls(sample, seed).or_else(|| odd_reasons(sample, seed)))
 }
 
 /// Arrays too short and too long, and an empty buffer.

@@ -11,16 +11,27 @@ use crate::{Answer, Reason};
 /// "A refusal leaves the output buffer untouched; an acceptance leaves the
 /// bytes after the document untouched."
 pub fn convert(file: &[u8], mode: u64, out: &mut [u8]) -> Answer {
+    let (answer, document) = answer_and_document(file, mode, out.len() as u64);
+    out[..document.len()].copy_from_slice(document.as_bytes());
+    answer
+}
+
+/// The answer for a buffer of `room` bytes, which nobody has to have.
+pub fn answer(file: &[u8], mode: u64, room: u64) -> Answer {
+    answer_and_document(file, mode, room).0
+}
+
+/// The answer, and what goes into the buffer: nothing after a refusal.
+fn answer_and_document(file: &[u8], mode: u64, room: u64) -> (Answer, String) {
     let reading = match read(file, mode) {
         Ok(reading) => reading,
-        Err(refusal) => return refused(refusal),
+        Err(refusal) => return (refused(refusal), String::new()),
     };
     let document = document(reading.rate, &reading.subtitles);
-    if document.len() > out.len() {
-        return too_long_for_buffer(document.len());
+    if document.len() as u64 > room {
+        return (too_long_for_buffer(document.len()), String::new());
     }
-    out[..document.len()].copy_from_slice(document.as_bytes());
-    accepted(&reading, document.len())
+    (accepted(&reading, document.len()), document)
 }
 
 /// "every other refusal has length and counts 0"

@@ -7,7 +7,7 @@
 mod header;
 mod text;
 
-use crate::{convert, file, Reason};
+use crate::{answer, file, Answer};
 
 /// "the rule's number, the block, the offset in the file of the byte (the first
 /// of the field, code, accent pair, run or row) that breaks it, and that byte, if
@@ -31,20 +31,10 @@ impl Explanation {
 
 /// "A public function takes file, break mode and the buffer's length"
 pub fn explain(file: &[u8], mode: u64, room: u64) -> Explanation {
-    let (number, place) = number_and_place(file, mode, room);
-    let offset = offset(file, mode, number, place);
+    let Answer { number, place, .. } = answer(file, mode, room);
+    let offset = offset(file, mode, number, place as usize);
     // At the file's length there is no byte.
-    Explanation { number, block: place as u64, offset: offset as u64, byte: file.get(offset).copied() }
-}
-
-/// What the converter answers with a buffer of so many bytes.
-fn number_and_place(file: &[u8], mode: u64, room: u64) -> (u64, usize) {
-    // No document is empty, so an empty buffer asks for the length needed.
-    let answer = convert(file, mode, &mut []);
-    if answer.number == Reason::Buffer as u64 && answer.length <= room {
-        return (0, 0);
-    }
-    (answer.number, answer.place as usize)
+    Explanation { number, block: place, offset: offset as u64, byte: file.get(offset).copied() }
 }
 
 /// The numbers are those of "What comes back".

@@ -1,8 +1,8 @@
 //! An independent second converter from EBU STL subtitle files to EBU-TT
-//! documents, written from document 01 (the rules), from requests 1 to 4 of
+//! documents, written from document 01 (the rules), from requests 1 to 5 of
 //! document 02 (open subtitles, text after the end box, "Tell me why", accents
-//! without a ready-made letter) and from Appendix B of document 004 (the Latin
-//! table) alone.
+//! without a ready-made letter, "Check as it comes off the robot") and from
+//! Appendix B of document 004 (the Latin table) alone.
 //!
 //! * [`characters`]: codes and accent pairs to characters
 //! * [`file`]: where the bytes of the file stand
@@ -32,7 +32,7 @@ pub mod program;
 pub mod reader;
 pub mod text;
 
-pub use convert::convert;
+pub use convert::{answer, convert};
 pub use explain::{explain, Explanation};
 
 /// "Every answer holds number, place, a length and five counts."

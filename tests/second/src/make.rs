@@ -6,12 +6,13 @@
 //! one number of "What comes back" (they may hide one another, which tests the
 //! order); last, the room of the buffer. Other samples stand for lines of the
 //! papers, for the largest sets, for texts of any codes, or for one kind of fault
-//! within a number.
+//! within a number. Files of many blocks are made apart from them.
 
 mod accents;
 mod boxes;
 mod header;
 mod limits;
+mod long;
 mod open;
 mod ordinary;
 mod plan;
@@ -27,6 +28,7 @@ use crate::dice::Dice;
 use accents::accent_case;
 use boxes::box_case;
 use limits::paper_case;
+pub use long::{long_file, user_blocks, Ending};
 use open::open_case;
 use ordinary::ordinary;
 use strange::{full, giant, raw_text};

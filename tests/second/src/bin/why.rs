@@ -13,6 +13,5 @@ fn main() -> io::Result<()> {
 
 /// What the program prints for this input.
 fn printed(input: &Input) -> Vec<u8> {
-    let numbers = explain(&input.file, input.mode, BUFFER as u64).numbers();
-    numbers.map(|number| format!("{number}\n")).concat().into_bytes()
+    program::lines(&explain(&input.file, input.mode, BUFFER as u64).numbers())
 }

@@ -1,0 +1,4 @@
+pub mod Cutting
+pub mod Standing
+pub mod Within
+pub mod Sound

@@ -1,0 +1,2 @@
+pub mod Lumps
+pub mod Promise

@@ -1,0 +1,9 @@
+pub mod Places
+pub mod Phases
+pub mod Ranges
+pub mod Numbers
+pub mod Checks
+pub mod Sound
+pub mod Stores
+pub mod Known
+pub mod Closing

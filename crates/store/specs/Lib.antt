@@ -1,0 +1,4 @@
+pub mod Layout
+pub mod Numbers
+pub mod Stores
+pub mod Tests
