@@ -15,6 +15,7 @@ ghost use Rattle.cells.specs.Fronts.{boxedStart, frontFrom};
 ghost use Rattle.cells.specs.Decoded.{rowTokens, runCells, Drawn, Decoded};
 use meaning::Glyph;
 use meaning::Token;
+use output::least;
 
 mod drawing;
 
@@ -47,12 +48,6 @@ pub fn unpacked(character: u32) -> Glyph
         point: (character % HALF) as u16,
         mark: (character / HALF) as u16,
     }
-}
-
-pub fn least(a: usize, b: usize) -> usize
-    ensures { λ r. ⌜ r ≡ min a b ⌝ }
-{
-    if a <= b { a } else { b }
 }
 
 // A cell has a place if both arrays have one for it.

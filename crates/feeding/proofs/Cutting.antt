@@ -9,11 +9,11 @@ use lib.Seq.{append-snoc, length-take-le, take-at, drop-at, take-all}
 use borrow.Author.Tests.{lt-ltb, le-ltb}
 use Rattle.meaning.specs.declared.Format.{Format}
 use Rattle.meaning.specs.Blocks.{gsiSize, blockSize, blocks}
-use Rattle.meaning.specs.Gsi.{formatOf}
+use Rattle.meaning.specs.Gsi.{mostBlocks, formatOf}
 use Rattle.meaning.specs.Walk.{Outcome, step, steps, setRule}
 use Rattle.meaning.proofs.Logic.{by-le}
 use Rattle.closed.specs.Body.{Body, laySet}
-use Rattle.feeding.specs.Feeding.{Check, mostBlocks, withGsi, withPart, withWalk, withBlock, walked, withBytes, withByte, fed}
+use Rattle.feeding.specs.Feeding.{Check, withGsi, withPart, withWalk, withBlock, walked, withBytes, withByte, fed}
 
 -- two lumps are as one
 pub fed-append : (c : Check) (xs ys : List ℕ) → fed c (xs ++ ys) ≡ fed (fed c xs) ys

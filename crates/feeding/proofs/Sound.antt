@@ -10,12 +10,12 @@ use lib.Dec.{ltb, leb, eqb}
 use lib.ListN.{length, length-append}
 use borrow.Author.Tests.{leb-true, ltb-true, eqb-true, le-leb, lt-ltb, eq-eqb}
 use Rattle.meaning.specs.Blocks.{gsiSize, blockSize}
-use Rattle.meaning.specs.Gsi.{formatOf}
+use Rattle.meaning.specs.Gsi.{mostBlocks, formatOf}
 use Rattle.meaning.specs.Walk.{setRule}
 use Rattle.meaning.proofs.Logic.{by-le, and-parts, and-true, or-parts, or-true-left, or-true-right}
 use Rattle.laws.proofs.Walk.{WithinIf, step-within, start-within}
 use Rattle.closed.specs.Body.{emptyBody, laySet}
-use Rattle.feeding.specs.Feeding.{Check, mostBlocks, opened, withBlock, withByte, fed}
+use Rattle.feeding.specs.Feeding.{Check, opened, withBlock, withByte, fed}
 use Rattle.feeding.specs.Sound.{isWithin, isSound}
 use Rattle.feeding.proofs.Cutting.{byte-gsi, byte-part, byte-block, block-counted, block-passed}
 use Rattle.feeding.proofs.Within.{within-test, tested-within}

@@ -8,10 +8,10 @@ use mathlib.Core.List.{List, _∷_, _++_, append-assoc}
 use lib.ListN.{length, take, drop, take-append-drop, length-append, length-drop, drop-of-length-le}
 use lib.Seq.{length-take-le, take-all, take-at, drop-at, take-append-le, drop-append-le}
 use Rattle.meaning.specs.Blocks.{gsiSize, blockSize, blocks, blockStart}
-use Rattle.meaning.specs.Gsi.{blockCount}
+use Rattle.meaning.specs.Gsi.{mostBlocks, blockCount}
 use Rattle.meaning.specs.Walk.{steps, walk}
 use Rattle.meaning.proofs.Logic.{by-le}
-use Rattle.feeding.specs.Feeding.{Check, mostBlocks, opened, withGsi, withPart, fed, walked}
+use Rattle.feeding.specs.Feeding.{Check, opened, withGsi, withPart, fed, walked}
 use Rattle.feeding.specs.Standing.{standing, Stands}
 use Rattle.feeding.proofs.Cutting.{fed-append, fed-gsi, fed-part, fed-blocks}
 

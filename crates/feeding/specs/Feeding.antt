@@ -6,14 +6,10 @@ use mathlib.Core.List.{List, [], _∷_, _++_}
 use lib.Dec.{ltb}
 use lib.ListN.{length}
 use Rattle.meaning.specs.Blocks.{gsiSize, blockSize, blocks}
-use Rattle.meaning.specs.Gsi.{formatOf}
+use Rattle.meaning.specs.Gsi.{mostBlocks, formatOf}
 use Rattle.meaning.specs.Walk.{begun, Outcome, step, steps, setRule}
 use Rattle.meaning.specs.Walk.Outcome.{accepted}
 use Rattle.closed.specs.Body.{Body, emptyBody, laySet}
-
--- the most blocks that TNB can count
-abbrev pub mostBlocks : ℕ
-mostBlocks = 99999
 
 -- break mode and room; the bytes of the GSI block so far, and of the block that is not whole yet; how many blocks are whole, one above the most
 -- that TNB can count for all that are more; the walk over the first of them, as many as TNB can count; and whether the check is closed

@@ -10,7 +10,8 @@ use Rattle.meaning.specs.Sets.{BlockSet, numberedBlocks}
 use Rattle.meaning.specs.Walk.{total, Outcome}
 use Rattle.meaning.specs.Walk.Outcome.{refused, accepted}
 use Rattle.closed.specs.Body.{Body}
-use Rattle.feeding.specs.Feeding.{Check, mostBlocks}
+use Rattle.meaning.specs.Gsi.{mostBlocks}
+use Rattle.feeding.specs.Feeding.{Check}
 
 -- a set that is open after n blocks: a numbered block is its last, and its text is that of no more blocks than this
 unfoldable pub isShortSoFar : ℕ → Option BlockSet → Bool

@@ -6,10 +6,10 @@ use mathlib.Core.Bool.{false}
 use mathlib.Core.List.{List}
 use lib.ListN.{take, drop}
 use Rattle.meaning.specs.Blocks.{gsiSize, blockStart}
-use Rattle.meaning.specs.Gsi.{formatOf, blockCount}
+use Rattle.meaning.specs.Gsi.{mostBlocks, formatOf, blockCount}
 use Rattle.meaning.specs.Walk.{walk, setRule}
 use Rattle.closed.specs.Body.{emptyBody, laySet}
-use Rattle.feeding.specs.Feeding.{Check, mostBlocks, opened, fed}
+use Rattle.feeding.specs.Feeding.{Check, opened, fed}
 
 -- the check that was fed a file
 unfoldable pub standing : ℕ → ℕ → List ℕ → Check

@@ -20,7 +20,7 @@ use Rattle.meaning.specs.TextRules.{textRules, textRule}
 use Rattle.meaning.specs.Glyphs.{spelling}
 use Rattle.meaning.specs.Cells.{Cell, Pen, points, penAfter, cellsOf, cellsFrom, rowStart, cellsOfRow, lookAfterRow, cellRows, shown}
 use Rattle.meaning.specs.Spans.{lookOf, uniform, spansFrom, spans}
-use Rattle.meaning.specs.Gsi.{formatOf, blockCount, isDigit, valueFrom, numberIn, tnb, mnr, isTeletext, screenOf, fileRule}
+use Rattle.meaning.specs.Gsi.{formatOf, blockCount, isDigit, valueFrom, numberIn, tnb, mnr, isTeletext, screenOf, fileRule, tnbAt, mostBlocks}
 use Rattle.meaning.specs.declared.Time.{Time}
 use Rattle.meaning.specs.declared.Header.{Header}
 use Rattle.meaning.specs.declared.Screen.{Screen}
@@ -68,10 +68,14 @@ field-bound from n file =
     (λ e. rw e (value-bound n 0 1 _ (simp length-take (omega arith)) e (omega arith)))
     (λ e. rw e (value-bound n 0 1 [] (omega arith) (test-nil isDigit) (omega arith)))
 
--- rule 6
-pub tnb-bound : (mode : ℕ) (file : List ℕ) → isGood (fileRule mode file) ≡ true → blockCount file ≤ 99999
+-- TNB has five digits
+pub tnb-low : (file : List ℕ) → tnb file ≤ mostBlocks
 unfolding tnb
-tnb-bound mode file e = omega (arith, tnb-right mode file e .1, field-bound 238 5 file)
+tnb-low file = omega (arith, field-bound tnbAt 5 file)
+
+-- rule 6
+pub tnb-bound : (mode : ℕ) (file : List ℕ) → isGood (fileRule mode file) ≡ true → blockCount file ≤ mostBlocks
+tnb-bound mode file e = omega (arith, tnb-right mode file e .1, tnb-low file)
 
 -- what is joined, by a bound on each part
 join-bound : {A : Type 0} (f : A → List ℕ) (n : ℕ) {xs : List A} → All (λ (x : A). length (f x) ≤ n) xs → length (flatMap f xs) ≤ n * length xs
@@ -326,7 +330,7 @@ module _ (mode : ℕ) (file : List ℕ) (p : Progress (List Subtitle)) (c : outc
   unfolding formatOf screenOf mnr
   screen-end = by-cond (λ (s : Screen). s .end ≤ 99) (isTeletext file) _ _ (omega arith) (omega (arith, field-bound 253 2 file))
 
-  pub subtitles-bound : length (p .gathered) ≤ 99999
+  pub subtitles-bound : length (p .gathered) ≤ mostBlocks
   subtitles-bound = omega (arith, held .few, tnb-bound mode file (rule-kept mode file p c))
 
   pub paragraphs-bound : length (flatMap writeParagraph (map (paragraphOf (formatOf mode file)) (p .gathered))) ≤ 27000000000

@@ -11,7 +11,7 @@ use borrow.Author.Tests.{eqb-true, eqb-false}
 use Rattle.meaning.specs.Lists.{joined}
 use Rattle.meaning.specs.Refusals.{isGood}
 use Rattle.meaning.specs.Blocks.{gsiSize, blockSize}
-use Rattle.meaning.specs.Gsi.{formatOf, blockCount, fileRule}
+use Rattle.meaning.specs.Gsi.{mostBlocks, formatOf, blockCount, fileRule}
 use Rattle.meaning.specs.Walk.{finish, walk, setRule}
 use Rattle.meaning.specs.Conversion.{answer}
 use Rattle.meaning.proofs.Logic.{by-test}
@@ -19,7 +19,7 @@ use Rattle.laws.proofs.Bounds.{tnb-bound}
 use Rattle.closed.specs.Body.{emptyBody, laySet}
 use Rattle.checking.specs.Passing.{checkedOf}
 use Rattle.convert.proofs.Converting.{answered-rule, answered-walk}
-use Rattle.feeding.specs.Feeding.{Check, mostBlocks, opened, withBlock, withBytes, withByte, fed}
+use Rattle.feeding.specs.Feeding.{Check, opened, withBlock, withBytes, withByte, fed}
 use Rattle.feeding.specs.Standing.{standing}
 use Rattle.feeding.proofs.Cutting.{fed-append}
 use Rattle.feeding.proofs.Standing.{stands}

@@ -1,49 +1,29 @@
 -- The rules 1 to 6 over what a check keeps of a file: they are those of the file, but for an offset that no answer tells.
 -- Assumes nothing.
-use Prim.Native.Nat.{ℕ, suc, _+_, _*_, _-_, _%_, _≤_, _<_, _^_, min}
+use Prim.Native.Nat.{ℕ, suc, _-_, _%_, min}
 use native.Mathlib.Omega.{arith}
 use mathlib.Core.Path.{_≡_, refl, ap, ap₂, _∙_}
 use mathlib.Core.Bool.{Bool, true, false, _&&_}
-use mathlib.Core.List.{List, [], _∷_}
+use mathlib.Core.List.{List, _∷_}
 use lib.Dec.{eqb}
 use lib.ListN.{length, take, drop, length-take, length-drop}
 use borrow.Author.Tests.{ne-eqb}
 use Rattle.meaning.specs.declared.Answer.{Answer}
 use Rattle.meaning.specs.declared.Refusal.{Refusal}
-use Rattle.meaning.specs.Lists.{all}
 use Rattle.meaning.specs.Refusals.{Rule, isGood, firstBroken}
 use Rattle.meaning.specs.Blocks.{gsiSize, blockSize, blockStart}
-use Rattle.meaning.specs.Gsi.{isDigit, valueFrom, numberIn, tnbAt, tnbField, tnb, blockCount, isWhole, gsiRules, fileRules, fileRule}
+use Rattle.meaning.specs.Gsi.{tnb, blockCount, isWhole, gsiRules, fileRules, fileRule, mostBlocks}
 use Rattle.meaning.specs.Conversion.{refusedAnswer}
-use Rattle.meaning.proofs.Logic.{by-test, by-le, same-leb}
-use Rattle.meaning.proofs.ListLaws.{test-split}
-use Rattle.gsi.proofs.Digits.{digit-range, below-next, below, field-length}
-use Rattle.feeding.specs.Feeding.{mostBlocks}
+use Rattle.meaning.proofs.Logic.{by-le, same-leb}
+use Rattle.laws.proofs.Bounds.{tnb-low}
 use Rattle.feeding.specs.Standing.{standing}
 use Rattle.lumps.specs.Lumps.{isWholeNow, ruleNow}
 use Rattle.lumps.proofs.Fronts.{rules-front}
 
--- digits after a number of i digits, n in all
-value-below : (n i v : ℕ) (cs : List ℕ) → all isDigit cs ≡ true → i + length cs ≤ n → v < 10 ^ i → valueFrom v cs < 10 ^ n
-unfolding valueFrom
-value-below n i v [] t k h = below n v i h (omega arith)
-value-below n i v (c ∷ cs) t k h =
-    let d = test-split isDigit c cs t in
-    let r = digit-range c (d .0) in
-    value-below n (i + 1) (10 * v + (c - 48)) cs (d .1) (omega arith) (below-next v (c - 48) i h (omega arith))
-
--- TNB has five digits
-tnb-below : (file : List ℕ) → tnb file ≤ mostBlocks
-unfolding tnb numberIn
-tnb-below file =
-    by-test (all isDigit (tnbField file))
-    (λ e. rw e (omega (arith, value-below 5 0 0 (tnbField file) e (omega (arith, field-length tnbAt 5 file)) (omega arith))))
-    (λ e. rw e (omega arith))
-
 -- TNB is not the count of more blocks than it can count
 count-now : (file : List ℕ) → eqb (tnb file) (min (blockCount file) (suc mostBlocks)) ≡ eqb (tnb file) (blockCount file)
 count-now file =
-    let t = tnb-below file in
+    let t = tnb-low file in
     by-le (blockCount file) mostBlocks
     (λ h. let m : min (blockCount file) (suc mostBlocks) ≡ blockCount file = omega arith in rw m)
     (λ h. rw (ne-eqb (tnb file) (blockCount file) (λ e. omega arith)) (ne-eqb (tnb file) (min (blockCount file) (suc mostBlocks)) (λ e. omega arith)))

@@ -62,6 +62,10 @@ tnbField file = field tnbAt 5 file
 unfoldable pub tnb : List ℕ → ℕ
 tnb file = numberIn (tnbField file)
 
+-- the most blocks that TNB can count
+abbrev pub mostBlocks : ℕ
+mostBlocks = 99999
+
 -- MNR, 253 to 254: the rows of the screen of open subtitles, 0 where one of its bytes is no digit
 unfoldable pub mnr : List ℕ → ℕ
 mnr file = numberIn (field mnrAt 2 file)

@@ -15,6 +15,12 @@ pub fn after(at: usize, n: usize) -> usize
     if n <= LARGEST - at { at + n } else { LARGEST }
 }
 
+pub fn least(a: usize, b: usize) -> usize
+    ensures { λ r. ⌜ r ≡ min a b ⌝ }
+{
+    if a <= b { a } else { b }
+}
+
 // How many of n elements a buffer of some size has room for from a position on.
 pub fn fitting(size: usize, at: usize, n: usize) -> usize
     ensures { λ r. ⌜ r ≡ min n (size - at) ⌝ }

@@ -33,14 +33,15 @@ pub struct Sets {
     pub current: Current,
 }
 
-// The EBN of a set's last block; the blocks before it are numbered below 240.
+// The EBN of a set's last block.
 const LAST: u8 = 255;
 
-const NUMBERED: usize = 240;
-
 impl Sets {
-    // The longest text: that of 240 numbered blocks and the last.
-    pub const ROOM: usize = (NUMBERED + 1) * TEXT_SIZE;
+    // The blocks before a set's last are numbered below it.
+    pub const NUMBERED: usize = 240;
+
+    // The longest text: that of all numbered blocks and the last.
+    pub const ROOM: usize = (Sets::NUMBERED + 1) * TEXT_SIZE;
 
     // A file of few blocks needs less room, which takes less time to clear.
     pub const FEW: usize = 16;
@@ -118,7 +119,7 @@ fn opening(f: Format, place: u64, h: Header, size: usize, least: u32) -> Step
 fn goes_on(last: u8, ebn: u8) -> bool
     ensures { λ r. ⌜ r ≡ goesOn last ebn ⌝ }
 {
-    (ebn == LAST) | ((ebn as u32 == last as u32 + 1) & ((ebn as usize) < NUMBERED))
+    (ebn == LAST) | ((ebn as u32 == last as u32 + 1) & ((ebn as usize) < Sets::NUMBERED))
 }
 
 // All blocks of a set agree in SGN, SN and CF.

@@ -1,14 +1,14 @@
 // What is shown of the cells in two lent arrays: their range, and its spans.
 
 ghost use mathlib.Core.Path.{_≡_};
-ghost use Prim.Native.Nat.{_+_, _<_, _≤_, min};
+ghost use Prim.Native.Nat.{_+_, _<_, _≤_};
 ghost use lib.ListN.{length};
 ghost use Rattle.meaning.specs.Lists.{takeWhile};
 ghost use Rattle.meaning.specs.Cells.{isBlankOnBlack, trimBack};
 ghost use Rattle.cells.specs.Arrays.{packedCell, cellsAt};
 ghost use Rattle.spans.specs.Ranges.{cut, cellsTo, shownRange, spanAt};
-use cells::least;
 use meaning::Look;
+use output::least;
 
 mod joining;
 

@@ -19,7 +19,7 @@ use Rattle.sets.specs.declared.Current.the-variants.{Between, Open}
 use Rattle.sets.specs.Assembling.{setWith, setOf, currentOf, assemblyOf}
 use Rattle.checking.specs.declared.blocks.Pass.{Pass}
 use Rattle.checking.specs.Passing.{outcomeOf}
-use Rattle.feeding.specs.Feeding.{mostBlocks}
+use Rattle.meaning.specs.Gsi.{mostBlocks}
 use Rattle.feeding.specs.Sound.{isShortSoFar, isWithin, isSound}
 use Rattle.store.specs.declared.State.{State}
 use Rattle.store.specs.Layout.{gsiAt, partAt, textAt, textRoom, storeSize, isPhase, marksIn}

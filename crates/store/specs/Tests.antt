@@ -12,7 +12,7 @@ use Rattle.sets.specs.declared.Set.{Set}
 use Rattle.sets.specs.declared.Current.{Current}
 use Rattle.sets.specs.declared.Current.the-variants.{Between, Open}
 use Rattle.checking.specs.declared.blocks.Pass.{Pass}
-use Rattle.feeding.specs.Feeding.{mostBlocks}
+use Rattle.meaning.specs.Gsi.{mostBlocks}
 use Rattle.store.specs.declared.State.{State}
 use Rattle.store.specs.Layout.{textRoom, storeSize, isPhase}
 

@@ -1,7 +1,6 @@
 // Whether a store holds a check, asked of its size and its numbers: no other part of it is looked at.
 
 ghost use mathlib.Core.Path.{_≡_};
-ghost use Prim.Native.Nat.{min};
 ghost use Rattle.meaning.specs.Walk.{total};
 ghost use Rattle.output.specs.Output.{past};
 ghost use Rattle.store.specs.Layout.{isPhase};
@@ -15,18 +14,10 @@ use meaning::Counts;
 use meaning::GSI_SIZE;
 use meaning::TEXT_SIZE;
 use output::after;
+use output::least;
 use sets::Current;
 use sets::Set;
 use sets::Sets;
-
-// The blocks of a set before its last.
-const NUMBERED: usize = Sets::ROOM / TEXT_SIZE - 1;
-
-fn least(a: usize, b: usize) -> usize
-    ensures { λ r. ⌜ r ≡ min a b ⌝ }
-{
-    if a <= b { a } else { b }
-}
 
 // A numbered block is the last so far, and the text is that of no more blocks than there are.
 fn is_short_set(n: usize, set: Set) -> bool
@@ -34,7 +25,7 @@ fn is_short_set(n: usize, set: Set) -> bool
 {
     let last = set.last as usize;
     let size = least(set.size, Sets::ROOM);
-    (last < NUMBERED) & (last < n) & (size <= TEXT_SIZE * (last + 1))
+    (last < Sets::NUMBERED) & (last < n) & (size <= TEXT_SIZE * (last + 1))
 }
 
 fn is_short(n: usize, current: Current) -> bool

@@ -11,7 +11,8 @@ use Rattle.meaning.specs.Lists.{field}
 use Rattle.meaning.specs.Blocks.{gsiSize, blockSize}
 use Rattle.output.specs.Output.{stored, Wrote}
 use Rattle.output.proofs.Laws.{length-stored, wrote-placed}
-use Rattle.feeding.specs.Feeding.{Check, mostBlocks, withPart, walked, fed}
+use Rattle.meaning.specs.Gsi.{mostBlocks}
+use Rattle.feeding.specs.Feeding.{Check, withPart, walked, fed}
 use Rattle.feeding.specs.Sound.{isWithin, isSound}
 use Rattle.feeding.proofs.Cutting.{fed-append, fed-gsi, fed-part, fed-block, one-block, fed-blocks}
 use Rattle.feeding.proofs.Within.{within-test}

@@ -11,7 +11,7 @@ use Rattle.meaning.specs.declared.Format.{Format}
 use Rattle.meaning.specs.Lists.{field}
 use Rattle.meaning.specs.Looks.{lookCount}
 use Rattle.meaning.specs.Blocks.{gsiSize, blocks}
-use Rattle.meaning.specs.Gsi.{formatOf}
+use Rattle.meaning.specs.Gsi.{mostBlocks, formatOf}
 use Rattle.meaning.specs.Walk.{steps, setRule}
 use Rattle.meaning.proofs.Logic.{by-le}
 use Rattle.laws.proofs.Steps.{blocks-length}
@@ -22,7 +22,7 @@ use Rattle.closed.specs.Body.{laySet}
 use Rattle.checking.specs.declared.blocks.Pass.{Pass}
 use Rattle.checking.specs.Passing.{Passing, outcomeOf, passingOutcome, passAll}
 use Rattle.checking.proofs.Stepping.{passes}
-use Rattle.feeding.specs.Feeding.{mostBlocks, withWalk, walked}
+use Rattle.feeding.specs.Feeding.{withWalk, walked}
 use Rattle.feeding.specs.Sound.{isWithin}
 use Rattle.feeding.proofs.Within.{tested-within}
 use Rattle.store.specs.declared.State.{State}
@@ -90,7 +90,7 @@ module _ (s : State) (store : List ℕ) (l : length store ≡ storeSize) (low : 
         {m count : ℕ} {w : Pass} {text out store′ : List ℕ} {marks : List Bool} → m ≡ min n (mostBlocks - s .count)
         → record { pass = w; text = text; out = out; marks = marks } ≡ passAll f (s .count) (record { pass = s .pass; text = take k (drop textAt store); out = []; marks = on }) (blocks m bytes)
         → length out ≡ 0 → length marks ≡ lookCount → store′ ≡ stored (take textAt store ++ (text ++ drop k (drop textAt store))) marksAt (flagsBytes marks)
-        → count ≡ min (past (s .count) n) (suc mostBlocks - 0)
+        → count ≡ min (past (s .count) n) (suc mostBlocks)
         → checkIn (withPass s count w) store′ ≡ walked (checkIn s store) n bytes
     unfolding past checkIn
     walk-checked {m} {count} {w} {text} {out} {store′} {marks} e d z y t q =

@@ -6,7 +6,8 @@ ghost use Prim.Native.Nat.{_+_, _*_, _≤_, _<_, suc, min};
 ghost use lib.ListN.{length};
 ghost use Rattle.meaning.specs.Blocks.{gsiSize, blockSize};
 ghost use Rattle.output.specs.Output.{stored};
-ghost use Rattle.feeding.specs.Feeding.{mostBlocks, walked, fed};
+ghost use Rattle.meaning.specs.Gsi.{mostBlocks};
+ghost use Rattle.feeding.specs.Feeding.{walked, fed};
 ghost use Rattle.feeding.specs.Sound.{isWithin, isSound};
 ghost use Rattle.store.specs.Layout.{gsiAt, partAt, storeSize};
 ghost use Rattle.store.specs.Numbers.{withGsiSize, withPartSize};
@@ -15,6 +16,7 @@ use meaning::BLOCK_SIZE;
 use meaning::GSI_SIZE;
 use meaning::Look;
 use output::fitting;
+use output::least;
 use store::MOST_BLOCKS;
 use store::State;
 
@@ -75,7 +77,7 @@ fn walk(store: &mut [u8], bytes: &[u8], n: usize, s: State) -> State
         room: s.room,
         gsi: s.gsi,
         part: 0,
-        count: fitting(MOST_BLOCKS + 1, 0, output::after(s.count, n)),
+        count: least(output::after(s.count, n), MOST_BLOCKS + 1),
         pass: w,
     }
 }

@@ -26,7 +26,7 @@ returns c =
           (i .flags-in .ensures ∙ ap (λ (l : List ℕ). flagsOver l (replicate lookCount false)) (i .before .before .field2 .ensures)) (k .fitting .ensures)
           (m .check-more .ensures) (m .check-more .kept .1 .1 .1 .1 .1 .0)
           (m .check-more .kept .1 .1 .1 .1 .1 .1 .0 ∙ i .flags-in .kept .1 .0 ∙ length-replicate lookCount false)
-          (c .before .before .before .before .put-flags .ensures) (c .fitting2 .ensures ∙ rw (c .before .after .ensures) refl),
+          (c .before .before .before .before .put-flags .ensures) (c .least .ensures ∙ rw (c .before .after .ensures) refl),
       (refl, (refl, refl)),
     )
 
@@ -34,5 +34,5 @@ pub walk-spec : {M : Type 1} → statement M
 walk-spec =
     tie.close (tie.spec (λ c κs. search needs) (λ c κs. search needs) (λ c κs. search needs) (λ c. search needs) (λ c κs. search needs)
     (λ c κs. search needs) (λ c. search needs) (λ c. search needs) (λ c. search needs) (λ c. search needs) (λ c. search needs)
-    (λ c κs. search needs) (λ c. search needs) (λ c κs. search needs) (λ c. search needs) (λ c κs. search needs) (λ c κs. search needs)
+    (λ c κs. search needs) (λ c. search needs) (λ c κs. search needs) (λ c κs. search needs) (λ c. search needs) (λ c κs. search needs)
     (λ c. search needs) returns)
