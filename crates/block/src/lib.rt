@@ -1,6 +1,8 @@
 // One block of an EBU STL file: a view of its bytes, its header and its text. A view holds a reference, so each function over
 // it is proved by hand and does one thing; the work on plain slices stands in `parts` and `read`.
 
+#![tactic(auto)]
+
 ghost use Rattle.std.specs.Prelude.{◌≡◌};
 ghost use Rattle.meaning.specs.Blocks.{header_of, block_text};
 
@@ -12,7 +14,7 @@ mod read;
 pub use parts::{bytes_at, field};
 
 // One block's bytes: 128, or fewer where the file ends. What is past the 128th is not read.
-#[derive(Drop)]
+#[derive(Clone, Copy)]
 pub struct Block<'a> {
     pub bytes: &'a [u8],
 }

@@ -1,5 +1,8 @@
 // The boundary cases of document 01 that are run. They stand on standard input as tests/CASES.md describes them, a header and a
 // file each.
+
+#![tactic(auto)]
+
 use meaning::Answer;
 
 // The most bytes of a file and of a document.
@@ -57,7 +60,7 @@ fn wide(x: u8) -> u64 {
 }
 
 // A header: the name, 24 bytes; the break mode; the room; the file's length; LF.
-#[derive(Drop)]
+#[derive(Clone, Copy)]
 struct Case {
     mode: u64,
     room: usize,

@@ -1,6 +1,8 @@
 // One row of a text, decoded into two lent arrays. The pen's look is kept packed, as looks are: then a run of codes and most
 // tokens hand it on as it is.
 
+#![tactic(auto)]
+
 ghost use Rattle.std.specs.Prelude.{◌≡◌, [], ◌∷◌, map, ◌+◌, ◌-◌, ◌<◌, ◌≤◌, ◌^◌, min, length, take, drop, replicate};
 ghost use Rattle.meaning.specs.Looks.{look_count, bit, unpack};
 ghost use Rattle.meaning.specs.Codes.{takes_cell};
@@ -21,7 +23,7 @@ pub const BLANK: u32 = 32;
 
 // A row that was read: how many cells it has, whether a row end follows it, the position after that, and the look after the
 // row, packed.
-#[derive(Drop)]
+#[derive(Clone, Copy)]
 pub struct RowRead {
     pub cells: usize,
     pub ended: bool,
@@ -147,7 +149,7 @@ fn put_run(
 
 // A row read as if a box were open at its start, and how many of its cells stand up to and with that of its first box code: 0
 // if it has none.
-#[derive(Drop)]
+#[derive(Clone, Copy)]
 struct RowDrawn {
     row: RowRead,
     front: usize,

@@ -1,4 +1,7 @@
 // What a text's codes stand for: a code by itself, an accent with the code after it, and what stands at a position.
+
+#![tactic(auto)]
+
 ghost use Rattle.std.specs.Prelude.{◌≡◌, ◌<◌};
 ghost use Rattle.meaning.specs.Codes.{is_accent, is_control, is_switch, character_of, code_token, pair_token};
 ghost use Rattle.charset.specs.Plain.{is_plain, plain_end};
@@ -11,7 +14,7 @@ mod composed_table;
 mod latin_table;
 
 // The token at a position of a text, and the position after it.
-#[derive(Drop)]
+#[derive(Clone, Copy)]
 pub struct Reading {
     pub token: Token,
     pub next: usize,

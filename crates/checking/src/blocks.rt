@@ -14,7 +14,7 @@ use styles::Marks;
 use text::Tally;
 
 // The refusal, if there is one; the sets; the counts; and how much was laid.
-#[derive(Drop)]
+#[derive(Clone, Copy)]
 pub struct Pass {
     pub refusal: Refusal,
     pub sets: Sets,

@@ -1,5 +1,7 @@
 // Pass one over a file's blocks: the sets that close are judged and their paragraphs measured.
 
+#![tactic(auto)]
+
 ghost use Rattle.std.specs.Prelude.{◌≡◌, ◌≤◌, length};
 ghost use Rattle.meaning.specs.Walk.{set_rule, finish, walk};
 ghost use Rattle.sets.specs.Assembling.{room_for};
@@ -16,7 +18,7 @@ mod blocks;
 pub use blocks::{Pass, check_more};
 
 // What pass one tells: a refusal, or the counts of blocks, how much is laid, and the looks in use.
-#[derive(Drop)]
+#[derive(Clone, Copy)]
 pub struct Checked {
     pub refusal: Refusal,
     pub counts: Counts,

@@ -1,5 +1,7 @@
 // A closed set: the rules 13 to 15 over its text, and its paragraph. A comment is neither tested nor laid.
 
+#![tactic(auto)]
+
 ghost use Rattle.std.specs.Prelude.{◌≡◌};
 ghost use Rattle.meaning.specs.Walk.{set_rule};
 ghost use Rattle.sets.specs.Assembling.{set_of};

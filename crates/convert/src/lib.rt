@@ -1,5 +1,7 @@
 // From an EBU STL file to an EBU-TT document, in two passes over the file: the first checks and measures, the second writes.
 
+#![tactic(auto)]
+
 ghost use Rattle.std.specs.Prelude.{◌≡◌, List, length};
 ghost use Rattle.meaning.specs.Gsi.{format_of};
 ghost use Rattle.meaning.specs.Walk.{Subtitle, Progress, outcome};
@@ -76,7 +78,7 @@ pub fn answer_of(f: Format, c: Checked, room: usize) -> Answer
 }
 
 // An answer, the offset of its refusal, and the looks that the document uses.
-#[derive(Drop)]
+#[derive(Clone, Copy)]
 struct Examined {
     answer: Answer,
     offset: u64,

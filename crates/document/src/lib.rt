@@ -1,5 +1,7 @@
 // The parts of a document over a lent buffer: what stands before the paragraphs, a paragraph, and what stands after them.
 
+#![tactic(auto)]
+
 ghost use Rattle.meaning.specs.Document.{write_time, alignment_name, after_paragraphs};
 ghost use Rattle.meaning.specs.Conversion.{alignment_of};
 ghost use Rattle.output.specs.Output.{Wrote};

@@ -1,5 +1,7 @@
 // Why a file is refused: the rule and the block that the converter's own walk tells, the offset in the file, and the byte there.
 
+#![tactic(auto)]
+
 ghost use Rattle.std.specs.Prelude.{◌≡◌, ◌-◌, ◌<◌, ◌^◌, length};
 ghost use Rattle.meaning.specs.Gsi.{block_count};
 ghost use Rattle.meaning.specs.Blocks.{block_start};

@@ -1,5 +1,7 @@
 // The byte of a text that breaks one of the rules 13 to 15. It is looked for only where `rows::verdict` says that one is broken.
 
+#![tactic(auto)]
+
 ghost use Rattle.std.specs.Prelude.{◌+◌, ◌≡◌, true, not, ◌&&◌, ◌||◌, ltb, drop};
 ghost use Rattle.meaning.specs.Codes.{tokens, is_listed, is_character, is_double_height};
 ghost use Rattle.meaning.specs.Rows.{first_row, heights_right, lines_of};
@@ -49,7 +51,7 @@ fn code_fault(text: &[u8], teletext: bool) -> usize
 }
 
 // What stands before a token: any row end; a character in the token's row; a row end just before it.
-#[derive(Drop)]
+#[derive(Clone, Copy)]
 struct Past {
     later: bool,
     character: bool,

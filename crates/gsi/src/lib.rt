@@ -1,5 +1,7 @@
 // The GSI block: the frames of a second, the screen, the blocks present, and the rules 1 to 6 over a whole file.
 
+#![tactic(auto)]
+
 ghost use Rattle.std.specs.Prelude.{◌≡◌, ◌&&◌, ◌||◌, ◌^◌, ◌≤◌, ◌<◌, eqb, length, get_or};
 ghost use Rattle.meaning.specs.Lists.{all, same};
 ghost use Rattle.meaning.specs.Refusals.{first_broken};
@@ -86,7 +88,7 @@ fn is_digit(c: u8) -> bool
 }
 
 // Bytes read as decimal digits: whether all of them are digits, and the number that they write, 0 if not.
-#[derive(Drop)]
+#[derive(Clone, Copy)]
 struct Decimal {
     valid: bool,
     value: usize,

@@ -1,5 +1,7 @@
 // The rules 8 to 12 over a set's first block.
 
+#![tactic(auto)]
+
 ghost use Rattle.std.specs.Prelude.{◌≡◌, ◌≤◌};
 ghost use Rattle.meaning.specs.Refusals.{first_broken, turns};
 ghost use Rattle.meaning.specs.Blocks.{in_frames, time_rules, times_rules, on_screen, first_block_rules};

@@ -1,5 +1,7 @@
 // What the programs read from standard input: a digit for the break mode, and then the file.
 
+#![tactic(auto)]
+
 ghost use Rattle.std.specs.Prelude.{◌≡◌};
 ghost use Rattle.input.specs.Modes.{mode_of};
 

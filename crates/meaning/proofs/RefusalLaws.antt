@@ -86,7 +86,7 @@ in_turn_lem place (r ∷ rs) h =
 -- the rules of two lists, one after the other
 pub turns-append : (place : ℕ) (r : Refusal) (rs qs : List Rule) → turns place r (rs ++ qs) ≡ turns place (turns place r rs) qs
 turns-append place r [] qs = refl
-turns-append place r (x ∷ rs) qs = turns-append place _ rs qs
+turns-append place r (x ∷ rs) qs = turns-append place (in_turn r place x.0 x.1 x.2) rs qs
 
 -- where no rule of two lists is broken, all of the first hold, and none of the second is broken
 pub unbroken-all : (place : ℕ) (rs qs : List Rule) → Numbered rs → Holds place (rs ++ qs) → (all holds rs ≡ true) × Holds place qs

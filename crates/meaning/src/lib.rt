@@ -1,5 +1,7 @@
 // The types that the definitions in specs/ speak of, with the few functions that belong to a type.
 
+#![tactic(auto)]
+
 ghost use Rattle.std.specs.Prelude.{◌≡◌, ◌≤◌, eqb};
 ghost use Rattle.meaning.specs.Refusals.{in_turn};
 ghost use Rattle.meaning.specs.Blocks.{is_comment};
@@ -22,7 +24,7 @@ pub const ROW_LIMIT: usize = 64;
 // The rule that a file breaks, the block, and the offset: from the start of the file in the rules 1 to 6, of the block in 7 to 12,
 // of the set's text in 13 to 15; 0 in 16. A set open at the end has the block count for its block, and offset 0 there: the file ends
 // at that place. Number 0 at place 0: no rule is broken.
-#[derive(Drop)]
+#[derive(Clone, Copy)]
 pub struct Refusal {
     pub number: u64,
     pub place: u64,
@@ -55,14 +57,14 @@ impl Refusal {
 }
 
 // The byte at an offset of a file, if there is one.
-#[derive(Drop)]
+#[derive(Clone, Copy)]
 pub enum FileByte {
     Absent,
     Present(u8),
 }
 
 // Why a file is refused: the rule, the block, the offset in the file, and the byte there.
-#[derive(Drop)]
+#[derive(Clone, Copy)]
 pub struct Reason {
     pub number: u64,
     pub block: u64,
@@ -71,7 +73,7 @@ pub struct Reason {
 }
 
 // What comes back from a conversion, in document 01's order.
-#[derive(Drop)]
+#[derive(Clone, Copy)]
 pub struct Answer {
     pub number: u64,
     pub place: u64,
@@ -84,7 +86,7 @@ pub struct Answer {
 }
 
 // The blocks of a file by kind. Each set is counted once, at its first block.
-#[derive(Drop)]
+#[derive(Clone, Copy)]
 pub struct Counts {
     pub subtitles: u64,
     pub comments: u64,
@@ -93,7 +95,7 @@ pub struct Counts {
 }
 
 // A time code: hours, minutes, seconds, frames.
-#[derive(Drop)]
+#[derive(Clone, Copy)]
 pub struct Time {
     pub hours: u8,
     pub minutes: u8,
@@ -102,7 +104,7 @@ pub struct Time {
 }
 
 // The header fields of a TTI block.
-#[derive(Drop)]
+#[derive(Clone, Copy)]
 pub struct Header {
     pub sgn: u8,
     pub sn: u16,
@@ -150,7 +152,7 @@ impl Header {
 }
 
 // The lines that a subtitle may stand on: from `first` up to, not with, `end`.
-#[derive(Drop)]
+#[derive(Clone, Copy)]
 pub struct Screen {
     pub first: u8,
     pub end: u8,
@@ -158,7 +160,7 @@ pub struct Screen {
 
 // How a file is read: the break mode, the frames of a second, the screen, and whether it is for teletext or has open
 // subtitles.
-#[derive(Drop)]
+#[derive(Clone, Copy)]
 pub struct Format {
     pub mode: u64,
     pub rate: u8,
@@ -176,14 +178,14 @@ impl Format {
 }
 
 // The character of a cell: a code point, and the combining mark on it, 0 where there is none.
-#[derive(Drop)]
+#[derive(Clone, Copy)]
 pub struct Glyph {
     pub point: u16,
     pub mark: u16,
 }
 
 // What one code of a text, or an accent with the code after it, stands for.
-#[derive(Drop)]
+#[derive(Clone, Copy)]
 pub enum Token {
     Character(Glyph),
     Control(u8),
@@ -193,7 +195,7 @@ pub enum Token {
 }
 
 // How a cell is shown. A colour has three bits, from the lowest red, green, blue.
-#[derive(Drop)]
+#[derive(Clone, Copy)]
 pub struct Look {
     pub italics: bool,
     pub underline: bool,
@@ -288,10 +290,10 @@ impl Look {
 }
 
 // Rows of a subtitle and lines of the screen are separate counts, never added.
-#[derive(Drop)]
+#[derive(Clone, Copy)]
 pub struct Rows(pub u32);
 
-#[derive(Drop)]
+#[derive(Clone, Copy)]
 pub struct Lines(pub u64);
 
 impl Rows {

@@ -1,5 +1,7 @@
 // The converter, the reason for a refusal, and the check that is fed in lumps, for callers in other languages.
 
+#![tactic(auto)]
+
 ghost use Rattle.std.specs.Prelude.{◌≡◌, false, length, set};
 ghost use Rattle.meaning.specs.Conversion.{answer, output};
 ghost use Rattle.laws.specs.Demands.{FewestSpans};

@@ -1,12 +1,14 @@
 // Numbers in decimal digits, laid over a lent buffer. A digit is told by subtracting its unit: nothing here divides.
 
+#![tactic(auto)]
+
 ghost use Rattle.std.specs.Prelude.{◌≡◌, ◌+◌, ◌*◌, ◌/◌, ◌%◌, ◌<◌, ◌≤◌, length, drop};
 ghost use Rattle.meaning.specs.Document.{digits, without_zeros, decimal};
 ghost use Rattle.output.specs.Output.{Wrote};
 ghost use Rattle.numbers.specs.Units.{taken_off};
 
 // A digit, and what is left of the number behind it.
-#[derive(Drop)]
+#[derive(Clone, Copy)]
 struct Leading {
     digit: u8,
     rest: u32,

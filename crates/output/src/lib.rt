@@ -1,6 +1,8 @@
 // Bytes laid over a lent buffer, from a position on. What falls past the buffer's end is cut and the position counts on,
 // so over an empty buffer the same functions only measure.
 
+#![tactic(auto)]
+
 ghost use Rattle.std.specs.Prelude.{◌≡◌, [], ◌∷◌, ◌-◌, min};
 ghost use Rattle.output.specs.Output.{Wrote, past};
 

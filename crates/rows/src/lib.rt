@@ -1,5 +1,7 @@
 // A text's rows, and which of the rules 13 to 15 it breaks. Where it breaks one is told by the crate faults.
 
+#![tactic(auto)]
+
 ghost use Rattle.std.specs.Prelude.{◌+◌, min, ◌≡◌};
 ghost use Rattle.meaning.specs.Codes.{tokens, is_row_end, is_double_height};
 ghost use Rattle.meaning.specs.Rows.{is_double};
@@ -11,7 +13,7 @@ use meaning::{Format, ROW_LIMIT, Rows, Token};
 
 // What is known of a row: its cells, counted up to a limit; whether all its codes are listed; whether 0Dh stands in it, and a
 // character; and whether no 0Dh stands after a character.
-#[derive(Drop)]
+#[derive(Clone, Copy)]
 struct RowFacts {
     // A usize for speed: with a u32 the struct is kept in one register, whose bits are picked apart for each token.
     cells: usize,
@@ -22,7 +24,7 @@ struct RowFacts {
 }
 
 // One row of a text: its facts, whether a row end follows it, and the position after that.
-#[derive(Drop)]
+#[derive(Clone, Copy)]
 struct RowScan {
     facts: RowFacts,
     ended: bool,
@@ -30,7 +32,7 @@ struct RowScan {
 }
 
 // What a search needs of a row: whether it has few enough cells, whether a row end follows it, and the position after that.
-#[derive(Drop)]
+#[derive(Clone, Copy)]
 pub struct Row {
     pub short: bool,
     pub ended: bool,
@@ -38,7 +40,7 @@ pub struct Row {
 }
 
 // What is known of all rows, which are counted up to the same limit.
-#[derive(Drop)]
+#[derive(Clone, Copy)]
 struct TextFacts {
     listed: bool,
     height: bool,
@@ -221,7 +223,7 @@ pub fn row_at(text: &[u8], start: usize) -> Row
 }
 
 // The row after a row end: where it starts, and whether a second row end stands before it, where they are paired.
-#[derive(Drop)]
+#[derive(Clone, Copy)]
 struct NextRow {
     even: bool,
     start: usize,
@@ -279,7 +281,7 @@ pub fn is_double(text: &[u8]) -> bool
 }
 
 // The scan of a whole text: the facts of all its rows, and whether every run of row ends is even, where they are paired.
-#[derive(Drop)]
+#[derive(Clone, Copy)]
 struct TextScan {
     facts: TextFacts,
     even: bool,

@@ -1,6 +1,8 @@
 // The sets of a file, put together block by block: rules 7 to 12. The text of the open set stands at the front of a buffer that
 // the caller lends.
 
+#![tactic(auto)]
+
 ghost use Rattle.std.specs.Prelude.{◌≡◌, List, ℕ, ◌+◌, leb};
 ghost use Rattle.meaning.specs.Refusals.{turns};
 ghost use Rattle.meaning.specs.Sets.{close_at_last, opening, goes_on, agreement_rules, continuing};
@@ -10,7 +12,7 @@ ghost use Rattle.sets.specs.Assembling.{set_with, assembly_of, text_end, step_of
 use meaning::{Format, Header, Refusal, TEXT_SIZE};
 
 // A set so far: the place and the header of its first block, the EBN of its last, and the size of its text.
-#[derive(Drop)]
+#[derive(Clone, Copy)]
 pub struct Set {
     pub place: u64,
     pub first: Header,
@@ -18,14 +20,14 @@ pub struct Set {
     pub size: usize,
 }
 
-#[derive(Drop)]
+#[derive(Clone, Copy)]
 pub enum Current {
     Between,
     Open(Set),
 }
 
 // What is known after some blocks: the least SN that the next set may have, and the set that is not closed yet.
-#[derive(Drop)]
+#[derive(Clone, Copy)]
 pub struct Sets {
     pub least: u32,
     pub current: Current,
@@ -64,7 +66,7 @@ impl Sets {
 }
 
 // What one block brings: no room for its text, a broken rule, no closed set, or one.
-#[derive(Drop)]
+#[derive(Clone, Copy)]
 pub enum Step {
     NoRoom,
     Broken(Refusal),

@@ -11,7 +11,7 @@ use meaning::Look;
 
 // What a span's cells tell of its foreground: whether they are only blanks so far, and the packed look of the first that is
 // none.
-#[derive(Drop)]
+#[derive(Clone, Copy)]
 pub(crate) struct Foreground {
     pub blanks: bool,
     pub look: u16,

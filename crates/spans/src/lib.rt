@@ -1,5 +1,7 @@
 // What is shown of the cells in two lent arrays: their range, and its spans.
 
+#![tactic(auto)]
+
 ghost use Rattle.std.specs.Prelude.{◌≡◌, ◌+◌, ◌<◌, ◌≤◌, length};
 ghost use Rattle.meaning.specs.Lists.{take_while};
 ghost use Rattle.meaning.specs.Cells.{is_blank_on_black, trim_back};
@@ -12,14 +14,14 @@ use output::least;
 mod joining;
 
 // The range of the shown cells.
-#[derive(Drop)]
+#[derive(Clone, Copy)]
 pub struct Shown {
     pub start: usize,
     pub end: usize,
 }
 
 // Where a span ends, and its packed look.
-#[derive(Drop)]
+#[derive(Clone, Copy)]
 pub struct SpanRead {
     pub end: usize,
     pub look: u16,

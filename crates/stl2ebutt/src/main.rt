@@ -1,5 +1,7 @@
 // The converting program of document 01: a digit for the break mode and then the file on standard input; the document or one line on standard output.
 
+#![tactic(auto)]
+
 use input::LIMIT;
 
 fn say_refused(number: u64, place: u64) {

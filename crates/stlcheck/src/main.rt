@@ -1,6 +1,8 @@
 // The check program of document 02: a digit for the break mode and then a file of any length on standard input; on standard output the eight
 // numbers of the answer, for a buffer of 2 to the 40 bytes, each followed by LF.
 
+#![tactic(auto)]
+
 use meaning::Answer;
 
 const ROOM: u64 = 1099511627776;

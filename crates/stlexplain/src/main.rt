@@ -1,6 +1,8 @@
 // Tells why a file is refused: a digit for the break mode and then the file on standard input; on standard output the numbers of the reason, each
 // followed by LF: number, block, offset, 1 or 0 for a byte or none, the byte or 0. The buffer is as long as that of the converting program.
 
+#![tactic(auto)]
+
 use input::LIMIT;
 use meaning::FileByte;
 

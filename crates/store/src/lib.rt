@@ -1,6 +1,8 @@
 // The store of a check that is fed in lumps: bytes that the caller lends. It holds the numbers of the check, the looks in use, the GSI block, the
 // block that is not whole yet, and the text of the open set.
 
+#![tactic(auto)]
+
 use checking::Pass;
 use meaning::{BLOCK_SIZE, GSI_SIZE, Look};
 use sets::Sets;
@@ -15,7 +17,7 @@ pub use testing::is_check;
 
 // The numbers of a check: whether it is open or closed, break mode, room, the bytes of the GSI block so far and of the block that is not whole yet,
 // the whole blocks, and pass one over them.
-#[derive(Drop)]
+#[derive(Clone, Copy)]
 pub struct State {
     pub phase: u64,
     pub mode: u64,

@@ -1,6 +1,8 @@
 // A check that is fed a file in lumps, and gives the converter's answer on the joined file at the close. What it knows stands in a store that
 // the caller lends.
 
+#![tactic(auto)]
+
 ghost use Rattle.std.specs.Prelude.{◌≡◌, false, length};
 ghost use Rattle.store.specs.Stores.{check_of};
 ghost use Rattle.streamed.specs.Checks.{begun_state, opened_in, fed_in, closed_in, answer_in, is_running, opened_store, store_closed};

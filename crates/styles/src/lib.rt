@@ -1,5 +1,7 @@
 // The looks in use, and the line of each in a document's styling.
 
+#![tactic(auto)]
+
 ghost use Rattle.std.specs.Prelude.{◌≡◌, true, cond, ◌+◌, ◌≤◌, set};
 ghost use mathlib.Core.List.{flat_map};
 ghost use Rattle.meaning.specs.Lists.{any, up_from};
@@ -11,7 +13,7 @@ ghost use Rattle.styles.specs.Styles.{is_on, marked_from, looks_marked, look_and
 use meaning::Look;
 
 // A mark for each look, set for the looks in use.
-#[derive(Drop)]
+#[derive(Clone, Copy)]
 pub struct Marks {
     pub on: [bool; Look::COUNT],
 }

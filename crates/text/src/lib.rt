@@ -1,5 +1,7 @@
 // A set's text laid as the content of a paragraph: spans, line breaks and filler lines.
 
+#![tactic(auto)]
+
 ghost use Rattle.std.specs.Prelude.{◌≡◌, ◌-◌, ◌≤◌, length, take, drop, replicate};
 ghost use mathlib.Core.List.{[], ◌∷◌, map, flat_map};
 ghost use Rattle.meaning.specs.Document.{escaped, write_piece};
@@ -13,7 +15,7 @@ ghost use Rattle.text.specs.Laid.{PiecesLaid, RowDone, RowsDone, content_of};
 use meaning::{Format, Lines, Look, ROW_LIMIT, Rows};
 
 // Where the next byte goes, and the spans so far.
-#[derive(Drop)]
+#[derive(Clone, Copy)]
 pub struct Tally {
     pub at: usize,
     pub spans: usize,
@@ -126,7 +128,7 @@ fn put_row(
 }
 
 // One row laid, whether a row end follows it, the position after that, and the look after the row, packed.
-#[derive(Drop)]
+#[derive(Clone, Copy)]
 struct RowLaid {
     tally: Tally,
     ended: bool,
@@ -157,7 +159,7 @@ fn lay_row(
 }
 
 // All rows laid, and their number.
-#[derive(Drop)]
+#[derive(Clone, Copy)]
 struct RowsLaid {
     tally: Tally,
     rows: u32,

@@ -1,5 +1,7 @@
 // Numbers and truth values in a lent buffer of bytes: eight bytes for a number, the lowest first, and one for a truth value.
 
+#![tactic(auto)]
+
 ghost use Rattle.std.specs.Prelude.{◌≡◌, ◌+◌, ◌-◌, ◌*◌, ◌≤◌, min, length, get_or};
 ghost use Rattle.meaning.specs.Lists.{field};
 ghost use Rattle.output.specs.Output.{stored, Wrote};

@@ -1,6 +1,8 @@
 // Pass two over a file's blocks: each set that closes is laid. No rule over texts is asked, and a block that breaks a rule is passed over: in a file
 // that pass one found good there is none.
 
+#![tactic(auto)]
+
 ghost use Rattle.std.specs.Prelude.{◌≡◌, true, ◌≤◌, length};
 ghost use Rattle.meaning.specs.Sets.{advance};
 ghost use Rattle.sets.specs.Assembling.{assembly_of, has_room, room_for};
@@ -12,7 +14,7 @@ use sets::{Sets, Step};
 use text::Tally;
 
 // The sets so far, and how much is laid.
-#[derive(Drop)]
+#[derive(Clone, Copy)]
 struct Writing {
     sets: Sets,
     tally: Tally,

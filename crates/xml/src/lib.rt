@@ -1,5 +1,7 @@
 // A character as text of an XML document, laid over a lent buffer: UTF-8, and names for the three that XML keeps for itself.
 
+#![tactic(auto)]
+
 ghost use Rattle.std.specs.Prelude.{◌≡◌, ◌⊎◌, ◌+◌, ◌%◌};
 ghost use Rattle.meaning.specs.Document.{utf8, escaped};
 ghost use Rattle.output.specs.Output.{Wrote};

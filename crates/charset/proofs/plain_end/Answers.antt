@@ -1,0 +1,21 @@
+use native.Mathlib.Omega.{arith}
+use mathlib.Core.Path.{sym, ◌∙◌}
+use borrow.Author.Tests.{not-true, not-false}
+use Rattle.meaning.proofs.ListLaws.{while_more, while_stops, while_ends}
+use Rattle.charset.specs.Plain.{is_plain}
+use Rattle.charset.proofs.plain_end.Goals as goal
+
+pub returns-then-not-is_plain : goal.returns-then-not-is_plain
+returns-then-not-is_plain c =
+    let s = c.args.text.now in
+    let other = sym c.is_plain.ensures ∙ not-true c.is_plain.result c.if-not-is_plain.true in
+    omega (arith, while_stops is_plain s c.loop-i.i 0 c.loop-i-test.true other)
+
+pub loop-i-preserved : goal.loop-i-preserved
+loop-i-preserved c =
+    let s = c.args.text.now in
+    let plain = sym c.is_plain.ensures ∙ not-false c.is_plain.result c.if-not-is_plain.false in
+    omega (arith, while_more is_plain s c.loop-i.i 0 c.loop-i-test.true plain)
+
+pub returns : goal.returns
+returns c = omega (arith, while_ends is_plain c.args.text.now c.loop-i.i (omega arith))

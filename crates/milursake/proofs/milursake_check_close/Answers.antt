@@ -1,0 +1,12 @@
+-- The numbers are those of the answer that the check gives.
+-- Assumes nothing.
+use mathlib.Core.Path.{◌∙◌, ap}
+use Rattle.output.specs.Output.{stored}
+use Rattle.milursake.specs.Numbers.{numbers_of}
+use Rattle.milursake.proofs.milursake_check_close.Goals as goal
+
+pub returns : goal.returns
+returns c =
+    let e = c.close_check-a.ensures in
+    let numbers = c.args.numbers.now in
+    (ap (λ a. a.number) e.0, (c.put_answer.ensures ∙ ap (λ a. stored numbers 0 (numbers_of a)) e.0, e.1))

@@ -1,0 +1,10 @@
+-- `cut_word` reads eight bytes, or as many as there are.
+-- Assumes nothing.
+use native.Mathlib.Omega.{arith}
+use Rattle.words.proofs.Laws.{word_eight}
+use Rattle.words.proofs.cut_word.Goals as goal
+
+pub returns : goal.returns
+returns c =
+    let a = c.args in
+    omega (arith, word_eight a.s.now a.at)
