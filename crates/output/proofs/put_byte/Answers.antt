@@ -1,21 +1,17 @@
 -- `put_byte` stores one byte if it fits.
 -- Assumes nothing.
-use mathlib.Core.Path.{ap, sym, ◌∙◌}
-use mathlib.Core.Logic.{⊎_elim}
-use native.Mathlib.Omega.{arith}
-use lib.ListN.{length, length-set}
+use mathlib.Core.Path.{sym, ◌∙◌}
 use lib.Seq.{set_out}
+use native.Mathlib.Omega.{arith}
 use Rattle.output.specs.Output.{stored}
 use Rattle.output.proofs.put_byte.Goals as goal
-
-pub shape_of-out : goal.shape_of-out
-shape_of-out c = ⊎_elim (λ w. ap length w.1 ∙ simp length-set) (λ w. ap length w.1) c.if-at-out.branch
+use Rattle.output.proofs.put_byte.Goals.{then-at-out, else-at-out}
 
 pub returns : goal.returns
 unfolding stored
 returns c =
     record {
-      held = ⊎_elim (λ w. w.1) (λ w. w.1 ∙ sym (set_out _ _ _ w.0.left)) c.if-at-out.branch;
+      held = elim c.if-at-out.branch [ then-at-out w ↦ w.out-is | else-at-out w ↦ w.out-is ∙ sym (set_out _ _ _ w.if-at-out.false) ];
       next = c.after.ensures;
       room = omega arith;
     }
