@@ -22,11 +22,11 @@ returns-then-is_switch c = sym (switch_token _ (sym c.is_switch.ensures ∙ c.if
 
 pub returns-in-36 : goal.returns-in-36
 unfolding code_token is_control is_switch character_of single latin latin_table
-returns-in-36 c = rw (c.single-in-36.ensures, c.in-36.keys1)
+returns-in-36 c = rw (c.single-in-36.ensures, c.in-36.is)
 
 pub returns-in-138 : goal.returns-in-138
 unfolding code_token
-returns-in-138 c = rw c.in-138.keys2
+returns-in-138 c = rw c.in-138.is
 
 pub returns-in_default : goal.returns-in_default
 returns-in_default c =
@@ -37,5 +37,5 @@ returns-in_default c =
     (sym c.is_plain.ensures ∙ c.if-is_plain.false)
     (sym c.is_control.ensures ∙ c.if-is_control.false)
     (sym c.is_switch.ensures ∙ c.if-is_switch.false)
-    c.in_default.rest.0.1
-    c.in_default.rest.1)
+    (λ e. omega arith)
+    (λ e. omega arith))

@@ -1,20 +1,24 @@
 use native.Mathlib.Omega.{arith}
 use mathlib.Core.Path.{sym, ◌∙◌}
-use borrow.Author.Tests.{not-true, not-false}
 use Rattle.meaning.proofs.ListLaws.{while_more, while_stops, while_ends}
-use Rattle.charset.specs.Plain.{is_plain}
+use Rattle.std.proofs.Common.{rules}
+use Rattle.charset.specs.Plain.{is_plain, plain_end}
 use Rattle.charset.proofs.plain_end.Goals as goal
 
 pub returns-then-not-is_plain : goal.returns-then-not-is_plain
 returns-then-not-is_plain c =
     let s = c.args.text.now in
-    let other = sym c.is_plain.ensures ∙ not-true c.is_plain.result c.if-not-is_plain.true in
+    let other = sym c.is_plain.ensures ∙ c.if-not-is_plain.true in
     omega (arith, while_stops is_plain s c.loop-i.i 0 c.loop-i-test.true other)
+
+pub loop-i-init : goal.loop-i-init
+unfolding plain_end
+loop-i-init c = search rules
 
 pub loop-i-preserved : goal.loop-i-preserved
 loop-i-preserved c =
     let s = c.args.text.now in
-    let plain = sym c.is_plain.ensures ∙ not-false c.is_plain.result c.if-not-is_plain.false in
+    let plain = sym c.is_plain.ensures ∙ c.if-not-is_plain.false in
     omega (arith, while_more is_plain s c.loop-i.i 0 c.loop-i-test.true plain)
 
 pub returns : goal.returns

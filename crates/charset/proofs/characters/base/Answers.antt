@@ -11,8 +11,8 @@ returns-then-c-eq32 c = rw (eq-eqb _ 32 c.if-c-eq32.true)
 
 pub returns-then-letter-eq0 : goal.returns-then-letter-eq0
 unfolding base
-returns-then-letter-eq0 c = rw (ne_eqb _ 32 c.if-c-eq32.false, eq-eqb _ 0 (sym c.letter.ensures.0 ∙ c.if-letter-eq0.true))
+returns-then-letter-eq0 c = rw (ne_eqb _ 32 c.if-c-eq32.false, eq-eqb _ 0 (sym c.letter.ensures.number ∙ c.if-letter-eq0.true))
 
 pub returns : goal.returns
 unfolding base
-returns c = rw (ne_eqb _ 32 c.if-c-eq32.false, ne_eqb _ 0 (λ e. c.if-letter-eq0.false (c.letter.ensures.0 ∙ e)))
+returns c = rw (ne_eqb _ 32 c.if-c-eq32.false, ne_eqb _ 0 (λ e. c.if-letter-eq0.false (c.letter.ensures.number ∙ e)))

@@ -11,7 +11,7 @@ overflow_sub-result c = omega (arith, between 65 90 c.args.c c.if-c.true)
 
 pub returns-then-c : goal.returns-then-c
 unfolding letter
-returns-then-c c = (rw c.if-c.true, omega (arith, between 65 90 c.args.c c.if-c.true))
+returns-then-c c = record { number = rw c.if-c.true; small = omega (arith, between 65 90 c.args.c c.if-c.true) }
 
 pub overflow_sub-result-then-c-2 : goal.overflow_sub-result-then-c-2
 unfolding letter
@@ -19,8 +19,8 @@ overflow_sub-result-then-c-2 c = omega (arith, between 97 122 c.args.c c.if-c-2.
 
 pub returns-then-c-2 : goal.returns-then-c-2
 unfolding letter
-returns-then-c-2 c = (rw (c.if-c.false, c.if-c-2.true), omega (arith, between 97 122 c.args.c c.if-c-2.true))
+returns-then-c-2 c = record { number = rw (c.if-c.false, c.if-c-2.true); small = omega (arith, between 97 122 c.args.c c.if-c-2.true) }
 
 pub returns : goal.returns
 unfolding letter
-returns c = (rw (c.if-c.false, c.if-c-2.false), omega arith)
+returns c = record { number = rw (c.if-c.false, c.if-c-2.false); small = omega arith }

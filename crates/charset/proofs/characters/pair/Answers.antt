@@ -9,11 +9,11 @@ use Rattle.charset.proofs.characters.pair.Goals as goal
 pub returns-then-point-eq0 : goal.returns-then-point-eq0
 unfolding accented
 returns-then-point-eq0 c =
-    let e = c.composed-point.ensures ∙ (λ i. composed (c.accent-number.ensures i) (c.letter.ensures.0 i)) in
+    let e = c.composed-point.ensures ∙ (λ i. composed (c.accent-number.ensures i) (c.letter.ensures.number i)) in
     rw (eq-eqb _ 0 (sym e ∙ c.if-point-eq0.true)) (λ i. record { point = c.base.ensures i; mark = (c.mark_of.ensures ∙ ap mark_of c.accent-number.ensures) i })
 
 pub returns : goal.returns
 unfolding accented
 returns c =
-    let e = c.composed-point.ensures ∙ (λ i. composed (c.accent-number.ensures i) (c.letter.ensures.0 i)) in
+    let e = c.composed-point.ensures ∙ (λ i. composed (c.accent-number.ensures i) (c.letter.ensures.number i)) in
     rw (ne_eqb _ 0 (λ z. c.if-point-eq0.false (e ∙ z))) (c.single.ensures ∙ ap single e)
