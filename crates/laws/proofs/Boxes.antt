@@ -1,7 +1,7 @@
 -- What boxes show: the pen, which goes from token to token, hides what the request says.
 -- Assumes nothing.
 use mathlib.Core.Path.{◌≡◌, refl, sym, ap, ◌∙◌}
-use mathlib.Core.Bool.{Bool, true, false, cond, not, ◌&&◌, ◌||◌, and_true, and-false, or-true}
+use mathlib.Core.Bool.{Bool, true, false, cond, not, ◌&&◌, ◌||◌, and-true, and-false, or-true}
 use mathlib.Core.List.{List, [], ◌∷◌, ◌++◌}
 use lib.Dec.{eqb}
 use borrow.Author.Tests.{eqb-true}
@@ -61,7 +61,7 @@ hidden_at : (l : Look) (before after : List Token) → (pen_end (row_start (befo
 unfolding row_start
 hidden_at l before after =
     by_test (any is_box_code (before ++ after))
-    (λ e. rw e (hidden-end _ before ∙ rw (or-true (any is_box_end before)) (and_true (not (in_box before)))))
+    (λ e. rw e (hidden-end _ before ∙ rw (or-true (any is_box_end before)) (and-true (not (in_box before)))))
     (λ e. rw e (hidden-end _ before ∙ rw (no_end before after e) (and-false (not (in_box before)))))
 
 -- the look goes its own way

@@ -105,6 +105,7 @@ spans-le (c ∷ cs) k = first_covered k
 no_spans : (cs : List Cell) → SameCells cs [] → length (spans cs) ≤ 0
 unfolding spans
 no_spans [] r = omega arith
+no_spans (_ ∷ _) r = elim r [ ]
 
 pub row-fewest : (cs : List Cell) (ss : List Span) → SameCells cs (shown (row_cells ss)) → length (spans cs) ≤ length ss
 unfolding row_cells span_cells

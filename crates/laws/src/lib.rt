@@ -2,4 +2,3 @@
 // and demand 3, which stands in specs/. There is no code here; the crates above cite the theorems.
 
 #![tactic(auto)]
-
