@@ -2,7 +2,7 @@
 -- Assumes nothing.
 use Prim.Native.Nat.{ℕ}
 use mathlib.Core.Path.{◌≡◌, refl, sym, ap, ◌∙◌}
-use mathlib.Core.Bool.{Bool, true, false, not, ◌&&◌, ◌||◌, and_true, and-false, not-not}
+use mathlib.Core.Bool.{Bool, true, false, not, ◌&&◌, ◌||◌, and-true, and-false, not-not}
 use mathlib.Core.List.{List, [], ◌∷◌, tail}
 use lib.Dec.{eqb}
 use borrow.Author.Tests.{not-true}
@@ -78,7 +78,7 @@ module _ (double paired : Bool) where
   height-pass before t ts c l =
       by_test (is_double_height t)
       (λ d.
-      let n : any is_character (first_row before) ≡ false = sym (and_true _) ∙ rw d at c in
+      let n : any is_character (first_row before) ≡ false = sym (and-true _) ∙ rw d at c in
       rw (d, n) (by_test double (λ s. rw s) (λ s. rw s (rw d at (l s)))))
       (λ d. rw d)
 

@@ -2,7 +2,7 @@
 -- row end is a token's own row.
 -- Assumes nothing.
 use mathlib.Core.Path.{◌≡◌, refl, sym, ◌∙◌}
-use mathlib.Core.Bool.{Bool, true, false, cond, not, ◌&&◌, ◌||◌, and_true, and-false, and_assoc, or-true}
+use mathlib.Core.Bool.{Bool, true, false, cond, not, ◌&&◌, ◌||◌, and-true, and-false, and_assoc, or-true}
 use mathlib.Core.List.{List, [], ◌∷◌}
 use Rattle.meaning.specs.declared.Token.{Token}
 use Rattle.meaning.specs.Lists.{all, any, take_while, onto_first}
@@ -47,7 +47,7 @@ pub token-front :
     (c : Bool) (t : Token) (rs : List (List Token))
     → heights_from c (onto_first t rs) ≡ not (c && is_double_height t) && heights_from (is_character t || c) rs
 unfolding heights_from onto_first
-token-front c t [] = rw (row-front c t [], empty_right (is_character t || c), test-nil height_first) (and_true _)
+token-front c t [] = rw (row-front c t [], empty_right (is_character t || c), test-nil height_first) (and-true _)
 token-front c t (r ∷ rs) = rw (row-front c t r) (and_assoc (not (c && is_double_height t)) _ _)
 
 -- the characters of a row so far

@@ -1,4 +1,3 @@
 // What a reason for a refusal says of its file. There is no code in this crate.
 
 #![tactic(auto)]
-
