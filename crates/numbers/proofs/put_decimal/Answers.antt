@@ -11,4 +11,4 @@ pub returns : goal.returns
 unfolding decimal
 returns c =
     let e = c.five_digits-all.ensures in
-    wrote_as (part_of_five c.first_digit-from.result (rw e (digits-length 5 _)) (c.first_digit-from.ensures.1 ∙ ap without_zeros e)) c.put.ensures
+    wrote_as (part_of_five _ c.first_digit-from.result (rw e (digits-length 5 _)) (c.first_digit-from.ensures.1 ∙ ap without_zeros e)) c.put.ensures
