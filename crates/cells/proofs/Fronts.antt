@@ -57,12 +57,12 @@ after-other t l h e = λ i. record { look = look_next t l; hidden = other-next t
 front_kept : (front n : ℕ) (ts : List Token) → eqb front 0 ≡ false → front_from front n ts ≡ front
 unfolding front_from front_after
 front_kept front n [] e = refl
-front_kept front n (t ∷ ts) e = rw (e, and-false (is_box_code t)) (front_kept front _ ts e)
+front_kept front n (t ∷ ts) e = rw (e, and-false (is_box_code t)) (front_kept front (n + bit (takes_cell t)) ts e)
 
 front-none : (n : ℕ) (ts : List Token) → any is_box_code ts ≡ false → front_from 0 n ts ≡ 0
 unfolding front_from front_after
 front-none n [] e = refl
-front-none n (t ∷ ts) e = let h = none_split is_box_code t ts e in rw h.0 (front-none _ ts h.1)
+front-none n (t ∷ ts) e = let h = none_split is_box_code t ts e in rw h.0 (front-none (n + bit (takes_cell t)) ts h.1)
 
 -- tokens with a box code among them, after n cells: how many of their cells stand up to and with that of the first one, and what follows
 record Front (l : Look) (n : ℕ) (ts : List Token) : Type 0 where

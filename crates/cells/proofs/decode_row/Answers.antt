@@ -6,4 +6,4 @@ use Rattle.cells.proofs.decode_row.Goals as goal
 pub returns : goal.returns
 returns c =
     let d = c.draw_row-drawn.ensures in
-    decoded _ d.0 d.1 c.put_hidden.ensures
+    decoded _ d.row d.front c.put_hidden.ensures

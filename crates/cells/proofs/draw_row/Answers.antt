@@ -10,19 +10,20 @@ loop-i-init c = ahead-all _ _ _ _ _ c.row_start-pen.ensures
 pub returns-then-is_row_end : goal.returns-then-is_row_end
 returns-then-is_row_end c =
     let o = read-on c.token_at-reading.ensures c.loop-i-test.true in
-    rw c.drawn.ensures (ahead-row-end c.loop-i.invariant o (sym c.is_row_end.ensures ∙ c.if-is_row_end.true) _ c.row_start-pen.ensures)
+    let d = ahead-row-end c.loop-i.invariant o (sym c.is_row_end.ensures ∙ c.if-is_row_end.true) _ c.row_start-pen.ensures in
+    rw c.drawn.ensures (record { row = d.0; front = d.1 })
 
 pub put_cell-n-requires : goal.put_cell-n-requires
-put_cell-n-requires c κs =
-    omega (arith, c.loop-i.invariant.passed, c.loop-i-test.true, c.well_formed)
+put_cell-n-requires c =
+    (omega (arith, c.loop-i.invariant.passed, c.loop-i-test.true, c.well_formed), c.loop-i.invariant.small)
 
 pub put_run-n-requires : goal.put_run-n-requires
-put_run-n-requires c κs =
+put_run-n-requires c =
     let w = turn_on c.token_at-reading.ensures c.loop-i-test.true c.plain_end-i.ensures in
     let few = takes_one c.token_at-reading.result.token in (
       w.run.on,
       w.run.within,
-      omega (arith, c.loop-i.invariant.passed, c.well_formed, c.put_cell-n.ensures.1),
+      omega (arith, c.loop-i.invariant.passed, c.well_formed, c.put_cell-n.ensures.count),
       rw c.look_next-pen.ensures (next_small c.token_at-reading.result.token c.loop-i.pen),
     )
 
@@ -36,9 +37,10 @@ loop-i-preserved c =
     let s = c.put_cell-n.ensures in
     let r = c.put_run-n.ensures in
     ahead-run
-    (ahead_more c.loop-i.invariant w.read (sym c.is_row_end.ensures ∙ c.if-is_row_end.false) c.look_next-pen.ensures c.hidden_next-hidden.ensures c.front_after-front.ensures s.0.0 s.0.1 s.1)
-    w.run r.0.0 r.0.1 r.1
+    (ahead_more c.loop-i.invariant w.read (sym c.is_row_end.ensures ∙ c.if-is_row_end.false) c.look_next-pen.ensures c.hidden_next-hidden.ensures c.front_after-front.ensures s.held.0 s.held.1 s.count)
+    w.run r.held.0 r.held.1 r.count
 
 pub returns : goal.returns
 returns c =
-    rw c.drawn-2.ensures (ahead-text-end c.loop-i.invariant c.loop-i-test.false _ c.row_start-pen.ensures)
+    let d = ahead-text-end c.loop-i.invariant c.loop-i-test.false _ c.row_start-pen.ensures in
+    rw c.drawn-2.ensures (record { row = d.0; front = d.1 })

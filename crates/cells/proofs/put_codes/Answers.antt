@@ -1,4 +1,3 @@
-use native.Mathlib.Omega.{arith}
 use mathlib.Core.Path.{refl, sym}
 use lib.ListN.{length-replicate, get_or-replicate}
 use Rattle.output.proofs.Storing.{storing_all, storing_more, storing_done}
@@ -6,9 +5,6 @@ use Rattle.cells.proofs.put_codes.Goals as goal
 
 pub loop-j-init : goal.loop-j-init
 loop-j-init c = (storing_all _ _ _, storing_all _ _ _)
-
-pub overflow_cast-characters : goal.overflow_cast-characters
-overflow_cast-characters c = omega (arith, c.shared_slice_known-1.given c.loop-j.j)
 
 pub loop-j-preserved : goal.loop-j-preserved
 loop-j-preserved c =

@@ -7,7 +7,7 @@ use Rattle.cells.proofs.Keeping.{kept_copies}
 use Rattle.cells.proofs.put_hidden.Goals as goal
 
 pub put_blanks-requires : goal.put_blanks-requires
-put_blanks-requires c κs =
+put_blanks-requires c =
     let e = rw c.least.ensures at c.fitting-blanks.ensures in
     (omega (arith, e), omega (arith, e))
 

@@ -15,7 +15,7 @@ pub returns-then-hidden : goal.returns-then-hidden
 returns-then-hidden c =
     let a = c.args in
     let size = part-size a.text.now a.from (a.to - a.from) (omega (arith, c.requires.0, c.requires.1)) in
-    rw (c.if-hidden.true, hidden-characters _ _, hidden-looks _ _, size) (c.put_hidden.ensures, search rules)
+    rw (c.if-hidden.true, hidden-characters _ _, hidden-looks _ _, size) (record { held = c.put_hidden.ensures; count = search rules })
 
 pub overflow_add-from : goal.overflow_add-from
 overflow_add-from c =
@@ -31,7 +31,7 @@ slice_bounds-put_codes-end c =
     few.codes
 
 pub put_codes-requires : goal.put_codes-requires
-put_codes-requires c κs =
+put_codes-requires c =
     let a = c.args in
     let e = rw c.least.ensures at c.fitting-few.ensures in
     let few = few_fit _ a.from a.to a.k _ _ c.fitting-few.result c.requires.0 c.requires.1 e in
@@ -47,10 +47,11 @@ returns c =
     let z : a.from + c.fitting-few.result - a.from ≡ c.fitting-few.result = omega arith in
     let size = part-size a.text.now a.from (a.to - a.from) (omega (arith, c.requires.0, c.requires.1)) in
     let size_few = part-size a.text.now a.from c.fitting-few.result few.codes in
-    rw c.if-hidden.false (
-      (
+    rw c.if-hidden.false
+    (record {
+      held = (
         rw z at c.put_codes.ensures.0 ∙ rw (run-characters _ _) (ap (stored a.characters.now a.k) (kept-few _ _ _ _ e codes)),
         rw (z, size_few) at c.put_codes.ensures.1 ∙ rw (run-looks _ c.requires.3 _, size) (ap (stored a.looks.now a.k) (kept_copies _ _ _ _ e a.pen)),
-      ),
-      search rules,
-    )
+      );
+      count = search rules;
+    })

@@ -1,5 +1,6 @@
 -- `control_here` gives the look of a control's own cell: all but 1Ch and 1Dh leave it as it is.
 -- Assumes nothing.
+use native.Mathlib.Omega.{arith}
 use mathlib.Core.Path.{sym, ◌∙◌}
 use borrow.Author.Tests.{ne_eqb}
 use Rattle.meaning.specs.Cells.{control_here}
@@ -8,12 +9,13 @@ use Rattle.cells.proofs.drawing.control_here.Goals as goal
 
 pub returns-in-28 : goal.returns-in-28
 unfolding control_here
-returns-in-28 c = rw c.in-28.keys1 c.with_background.ensures
+returns-in-28 c = rw c.in-28.is c.with_background.ensures
 
 pub returns-in-29 : goal.returns-in-29
 unfolding control_here
-returns-in-29 c = rw c.in-29.keys2 (c.with_background-in-29.ensures ∙ rw c.unpack.ensures)
+returns-in-29 c = rw c.in-29.is (c.with_background-in-29.ensures ∙ rw c.unpack.ensures)
 
 pub returns-in_default : goal.returns-in_default
 unfolding control_here
-returns-in_default c = rw (ne_eqb _ 28 c.in_default.rest.0.1, ne_eqb _ 29 c.in_default.rest.1) (sym (pack-unpack _ c.requires))
+returns-in_default c =
+    rw (ne_eqb c.args.c 28 (λ e. omega (arith, e)), ne_eqb c.args.c 29 (λ e. omega (arith, e))) (sym (pack-unpack _ c.requires))

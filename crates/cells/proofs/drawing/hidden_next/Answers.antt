@@ -6,20 +6,20 @@ use Rattle.cells.proofs.drawing.hidden_next.Goals as goal
 
 pub returns-in-Character : goal.returns-in-Character
 unfolding hidden_next is_control_of
-returns-in-Character c = rw c.enum_told-1.given.1
+returns-in-Character c = rw c.in-Character.is
 
 pub returns-in-Control : goal.returns-in-Control
 unfolding hidden_next is_control_of
-returns-in-Control c = rw c.token-1.given.1
+returns-in-Control c = rw c.in-Control.is
 
 pub returns-in-Switch : goal.returns-in-Switch
 unfolding hidden_next is_control_of
-returns-in-Switch c = rw c.enum_told-in-Switch-1.given.1
+returns-in-Switch c = rw c.in-Switch.is
 
 pub returns-in-RowEnd : goal.returns-in-RowEnd
 unfolding hidden_next is_control_of
-returns-in-RowEnd c = rw c.enum_told-in-RowEnd-1.given.1
+returns-in-RowEnd c = rw c.in-RowEnd.is
 
 pub returns-in-Unlisted : goal.returns-in-Unlisted
 unfolding hidden_next is_control_of
-returns-in-Unlisted c = rw c.enum_told-in-Unlisted-1.given.1
+returns-in-Unlisted c = rw c.in-Unlisted.is

@@ -1,0 +1,7 @@
+use Rattle.cells.specs.Arrays.{packed}
+use Rattle.std.proofs.Common.{rules}
+use Rattle.cells.proofs.packed.Goals as goal
+
+pub returns : goal.returns
+unfolding packed
+returns c = search rules
