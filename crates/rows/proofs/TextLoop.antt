@@ -3,7 +3,7 @@
 use Prim.Native.Nat.{ℕ, suc, ◌-◌, ◌≤◌, ◌<◌}
 use native.Mathlib.Omega.{arith}
 use mathlib.Core.Path.{◌≡◌, refl, sym, ap, ◌∙◌}
-use mathlib.Core.Bool.{Bool, true, false, cond, not, ◌&&◌, ◌||◌, and_true, and_assoc, or-true}
+use mathlib.Core.Bool.{Bool, true, false, cond, not, ◌&&◌, ◌||◌, and-true, and_assoc, or-true}
 use mathlib.Core.List.{List, [], ◌∷◌, ◌++◌, append-nil}
 use lib.ListN.{drop}
 use lib.Seq.{append_snoc}
@@ -86,7 +86,7 @@ module _ {teletext : Bool} {s : List ℕ} {paired : Bool} {a : TextFacts} {even 
       let o = sym l.ended ∙ m in
       record {
         facts = l.facts ∙ ap (facts_of_rows teletext) (sym (append-nil l.past) ∙ rw (no_rows_after paired l.row o) at l.rows);
-        even = sym (and_true even) ∙ rw (even_open l.row o, or-true (not paired)) at l.evens;
+        even = sym (and-true even) ∙ rw (even_open l.row o, or-true (not paired)) at l.evens;
       }
 
 -- what is left of the text falls: another row was read, or there is none

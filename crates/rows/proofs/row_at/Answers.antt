@@ -1,6 +1,5 @@
 use native.Mathlib.Omega.{arith}
 use mathlib.Core.Path.{sym, ◌∙◌}
-use mathlib.Core.Bool.{true}
 use Rattle.charset.proofs.Laws.{read-on}
 use Rattle.rows.proofs.RowLoop.{left-start, left-more, left_end, left_over}
 use Rattle.rows.proofs.Facts.{row_scanned}
