@@ -3,11 +3,8 @@
 use Rattle.meaning.specs.Lists.{joined, bytes}
 use Rattle.meaning.specs.Document.{size_name, font_style_name, decoration_name, style_end}
 use Rattle.output.specs.Output.{Wrote}
-use Rattle.output.proofs.Laws.{◌⨟◌, wrote-length}
+use Rattle.output.proofs.Laws.{◌⨟◌}
 use Rattle.styles.proofs.put_style_end.Goals as goal
-
-pub shape_of-out : goal.shape_of-out
-shape_of-out c = wrote-length (returns c)
 
 pub returns : goal.returns
 unfolding style_end size_name font_style_name decoration_name joined bytes

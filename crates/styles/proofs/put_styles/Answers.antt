@@ -1,5 +1,5 @@
 use native.Mathlib.Omega.{arith}
-use Rattle.output.proofs.Laws.{wrote-length, wrote_nothing}
+use Rattle.output.proofs.Laws.{wrote_nothing}
 use Rattle.styles.proofs.Laws.{lines_begun, lines_on, lines_written, later_fewer}
 use Rattle.styles.proofs.put_styles.Goals as goal
 
@@ -14,9 +14,6 @@ loop-look-smaller c =
 pub loop-look-preserved : goal.loop-look-preserved
 loop-look-preserved c =
     lines_on (omega arith) c.next_marked-look-in-loop-look.ensures c.loop-look.invariant c.put_style-p.ensures
-
-pub shape_of-out : goal.shape_of-out
-shape_of-out c = wrote-length (returns c)
 
 pub returns : goal.returns
 returns c = lines_written (omega arith) c.loop-look.invariant
