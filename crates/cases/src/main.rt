@@ -4,6 +4,8 @@
 #![tactic(auto)]
 
 use meaning::Answer;
+use std::io;
+use std::io::Read;
 
 // The most bytes of a file and of a document.
 const ROOM: usize = 65536;
@@ -27,27 +29,17 @@ fn adler(bytes: &[u8], n: u64) -> u64 {
     high * 65536 + low
 }
 
-fn say(n: u64, after: &[u8]) {
-    io::print_decimal(libc::STDOUT_FILENO, n);
-    io::write_all(libc::STDOUT_FILENO, after);
+fn say_name(rt: &impl Print, header: &[u8; 32]) -> io::Result<()> {
+    rt.write_all(&header[..24])?;
+    print!(rt; ": ")
 }
 
-fn say_name(header: &[u8]) {
-    if 24 <= header.len() {
-        io::write_all(libc::STDOUT_FILENO, &header[..24]);
-        io::write_all(libc::STDOUT_FILENO, b": ");
-    }
-}
-
-fn say_answer(a: Answer) {
-    say(a.number, b" ");
-    say(a.place, b" ");
-    say(a.length, b" ");
-    say(a.subtitles, b" ");
-    say(a.comments, b" ");
-    say(a.continuations, b" ");
-    say(a.users, b" ");
-    say(a.spans, b"\n");
+fn say_answer(rt: &impl Print, a: Answer) -> io::Result<()> {
+    print!(rt; "{} {} {} {} ", a.number, a.place, a.length, a.subtitles)?;
+    println!(rt;
+        "{} {} {} {}",
+        a.comments, a.continuations, a.users, a.spans
+    )
 }
 
 // Three bytes, the low one first.
@@ -75,43 +67,57 @@ fn case_of(header: &[u8; 32]) -> Case {
     }
 }
 
-fn run(c: Case, file: &mut [u8], out: &mut [u8]) {
+// Reads the file, converts it and says the answer; a case with too large a room or file, or with less of a file, says no more.
+fn run<R: Read>(
+    rt: &impl Print,
+    reader: &mut R,
+    c: Case,
+    file: &mut [u8],
+    out: &mut [u8],
+) -> io::Result<()> {
     let n = c.length;
     let room = c.room;
-    if n <= file.len() {
-        if room <= out.len() {
-            let read = io::read_full(libc::STDIN_FILENO, &mut file[..n]);
-            if read == n {
-                let a = convert::convert(&file[..n], c.mode, &mut out[..room]);
-                say_answer(a);
-                if a.number == 0 {
-                    say(adler(out, a.length), b"\n");
-                }
-            }
-        }
+    if n > file.len() || room > out.len() {
+        return Ok(());
     }
+    let read = input::read_full(reader, &mut file[..n])?;
+    if read < n {
+        return Ok(());
+    }
+    let a = convert::convert(&file[..n], c.mode, &mut out[..room]);
+    say_answer(rt, a)?;
+    if a.number > 0 {
+        return Ok(());
+    }
+    println!(rt; "{}", adler(out, a.length))
 }
 
 // The next case, if there is one.
-fn run_next(header: &mut [u8; 32], file: &mut [u8; ROOM], out: &mut [u8; ROOM]) -> bool {
-    let n = io::read_full(libc::STDIN_FILENO, header);
+fn run_next<R: Read>(
+    rt: &impl Print,
+    reader: &mut R,
+    header: &mut [u8; 32],
+    file: &mut [u8; ROOM],
+    out: &mut [u8; ROOM],
+) -> io::Result<bool> {
+    let n = input::read_full(reader, header)?;
     if n < 32 {
-        return false;
+        return Ok(false);
     }
-    say_name(header);
-    run(case_of(header), file, out);
-    true
+    say_name(rt, header)?;
+    run(rt, reader, case_of(header), file, out)?;
+    Ok(true)
 }
 
-fn main() {
+fn main(rt: HostRuntime) -> io::Result<()> {
     let mut header = [0u8; 32];
     let mut file = [0u8; ROOM];
     let mut out = [0u8; ROOM];
-    let mut k = 0;
-    while k < MOST {
-        if !run_next(&mut header, &mut file, &mut out) {
-            return;
+    let mut stdin = rt.stdin();
+    for _ in 0..MOST {
+        if !run_next(&rt, &mut stdin, &mut header, &mut file, &mut out)? {
+            break;
         }
-        k += 1;
     }
+    Ok(())
 }

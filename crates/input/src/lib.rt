@@ -1,9 +1,14 @@
-// What the programs read from standard input: a digit for the break mode, and then the file.
+// What the programs read from standard input: a digit for the break mode, and then the file. The program `cases` reads as they do.
 
 #![tactic(auto)]
 
-ghost use Rattle.std.specs.Prelude.{◌≡◌};
+ghost use Rattle.std.specs.Prelude.{◌≡◌, ◌<◌, length, take, IfOk};
+ghost use Rattle.std.specs.Io.{ReadsAtMost};
+ghost use Rattle.std.specs.Io.KnownBytes.{Consumes, IsAtEnd};
 ghost use Rattle.input.specs.Modes.{mode_of};
+
+use std::io;
+use std::io::Read;
 
 // The most bytes of a file, and of the document that it gives.
 pub const LIMIT: usize = 65536;
@@ -19,4 +24,21 @@ pub fn mode_of(digit: u8) -> u64
     } else {
         0
     }
+}
+
+// Reads until the buffer is full or the input ends: how many bytes stand at its start then. A read that fails ends it.
+pub fn read_full<R: Read>(reader: &mut R, buffer: &mut [u8]) -> io::Result<usize>
+    ensures count { ReadsAtMost result buffer.new }
+    ensures bytes { IfOk result (λ n. Consumes (R.remaining reader.old) (R.remaining reader.new) (take n buffer.new)) }
+    ensures end { IfOk result (λ n. n < length buffer.new → IsAtEnd (R.remaining reader.new)) }
+{
+    let mut done = 0;
+    while done < buffer.len() {
+        let n = reader.read(&mut buffer[done..])?;
+        if n == 0 {
+            break;
+        }
+        done += n;
+    }
+    Ok(done)
 }

@@ -3,30 +3,22 @@
 #![tactic(auto)]
 
 use input::LIMIT;
+use std::io;
 
-fn say_refused(number: u64, place: u64) {
-    io::write_all(libc::STDOUT_FILENO, b"refused ");
-    io::print_decimal(libc::STDOUT_FILENO, number);
-    io::write_all(libc::STDOUT_FILENO, b" at ");
-    io::print_decimal(libc::STDOUT_FILENO, place);
-    io::write_all(libc::STDOUT_FILENO, b"\n");
-}
-
-fn main() {
+fn main(rt: HostRuntime) -> io::Result<()> {
     let mut digit = [0u8; 1];
     // One byte more than a file may have, to see that it is longer.
     let mut file = [0u8; LIMIT + 1];
     let mut out = [0u8; LIMIT];
-    io::read_full(libc::STDIN_FILENO, &mut digit);
-    let n = io::read_full(libc::STDIN_FILENO, &mut file);
+    let mut stdin = rt.stdin();
+    input::read_full(&mut stdin, &mut digit)?;
+    let n = input::read_full(&mut stdin, &mut file)?;
     if n > LIMIT {
-        io::write_all(libc::STDOUT_FILENO, b"too long\n");
-        return;
+        return println!(rt; "too long");
     }
     let a = convert::convert(&file[..n], input::mode_of(digit[0]), &mut out);
     if a.number > 0 {
-        say_refused(a.number, a.place);
-        return;
+        return println!(rt; "refused {} at {}", a.number, a.place);
     }
-    io::write_all(libc::STDOUT_FILENO, &out[..a.length as usize]);
+    rt.write_all(&out[..a.length as usize])
 }

@@ -4,54 +4,46 @@
 #![tactic(auto)]
 
 use meaning::Answer;
+use std::io;
+use std::io::Read;
 
 const ROOM: u64 = 1099511627776;
 
 // What is read at once.
 const LUMP: usize = 65536;
 
-// More lumps than any input has: the loop has an end that no input reaches.
-const LUMPS: u64 = 18446744073709551615;
-
-fn say(n: u64) {
-    io::print_decimal(libc::STDOUT_FILENO, n);
-    io::write_all(libc::STDOUT_FILENO, b"\n");
-}
-
-fn say_answer(a: Answer) {
-    say(a.number);
-    say(a.place);
-    say(a.length);
-    say(a.subtitles);
-    say(a.comments);
-    say(a.continuations);
-    say(a.users);
-    say(a.spans);
+fn say_answer(rt: &impl Print, a: Answer) -> io::Result<()> {
+    println!(rt; "{}\n{}\n{}\n{}", a.number, a.place, a.length, a.subtitles)?;
+    println!(rt;
+        "{}\n{}\n{}\n{}",
+        a.comments, a.continuations, a.users, a.spans
+    )
 }
 
 // Feeds what is read next, and tells whether it was the last.
-fn feed_next(store: &mut [u8], lump: &mut [u8]) -> bool {
-    let n = io::read_full(libc::STDIN_FILENO, lump);
+fn feed_next<R: Read>(reader: &mut R, store: &mut [u8], lump: &mut [u8]) -> io::Result<bool> {
+    let n = input::read_full(reader, lump)?;
     streamed::feed_check(store, &lump[..n]);
-    n < lump.len()
+    Ok(n < lump.len())
 }
 
-fn feed_input(store: &mut [u8]) {
+// More lumps than any input has: the loop has an end that no input reaches.
+fn feed_input<R: Read>(reader: &mut R, store: &mut [u8]) -> io::Result<()> {
     let mut lump = [0u8; LUMP];
-    let mut left = LUMPS;
-    while left > 0 {
-        if feed_next(store, &mut lump) {
-            return;
+    for _ in 0..u64::MAX {
+        if feed_next(reader, store, &mut lump)? {
+            break;
         }
-        left -= 1;
     }
+    Ok(())
 }
 
-fn main() {
+fn main(rt: HostRuntime) -> io::Result<()> {
     let mut digit = [0u8; 1];
     let mut store = [0u8; streamed::SIZE];
-    io::read_full(libc::STDIN_FILENO, &mut digit);
+    let mut stdin = rt.stdin();
+    input::read_full(&mut stdin, &mut digit)?;
     streamed::open_check(&mut store, input::mode_of(digit[0]), ROOM);
-    feed_input(&mut store);
-    say_answer(streamed::close_check(&mut store));
+    feed_input(&mut stdin, &mut store)?;
+    say_answer(&rt, streamed::close_check(&mut store))
 }

@@ -5,39 +5,26 @@
 
 use input::LIMIT;
 use meaning::FileByte;
+use std::io;
 
-fn say(n: u64) {
-    io::print_decimal(libc::STDOUT_FILENO, n);
-    io::write_all(libc::STDOUT_FILENO, b"\n");
-}
-
-fn say_byte(byte: FileByte) {
+fn say_byte(rt: &impl Print, byte: FileByte) -> io::Result<()> {
     match byte {
-        FileByte::Absent => {
-            say(0);
-            say(0);
-        }
-        FileByte::Present(b) => {
-            say(1);
-            say(b as u64);
-        }
+        FileByte::Absent => println!(rt; "0\n0"),
+        FileByte::Present(b) => println!(rt; "1\n{b}"),
     }
 }
 
-fn main() {
+fn main(rt: HostRuntime) -> io::Result<()> {
     let mut digit = [0u8; 1];
     // One byte more than a file may have, to see that it is longer.
     let mut file = [0u8; LIMIT + 1];
-    io::read_full(libc::STDIN_FILENO, &mut digit);
-    let n = io::read_full(libc::STDIN_FILENO, &mut file);
+    let mut stdin = rt.stdin();
+    input::read_full(&mut stdin, &mut digit)?;
+    let n = input::read_full(&mut stdin, &mut file)?;
     if n > LIMIT {
-        io::write_all(libc::STDOUT_FILENO, b"too long\n");
-        return;
+        return println!(rt; "too long");
     }
     let r = explain::explain(&file[..n], input::mode_of(digit[0]), LIMIT);
-    say(r.number);
-    say(r.block);
-    say(r.offset);
-    let byte = r.byte;
-    say_byte(byte);
+    println!(rt; "{}\n{}\n{}", r.number, r.block, r.offset)?;
+    say_byte(&rt, r.byte)
 }
