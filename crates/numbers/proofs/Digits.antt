@@ -68,12 +68,3 @@ last_digits j (suc k) n =
     rw (add-suc j k)
     (drop-append-le j (digits (j + k) (n / 10)) ((48 + n % 10) ∷ []) (omega (arith, digits-length (j + k) (n / 10)))
     ∙ ap (λ (ds : List ℕ). ds ++ ((48 + n % 10) ∷ [])) (last_digits j k (n / 10)))
-
--- the last three digits are those of the last thousand
-pub last-thousand : (n : ℕ) → digits 3 (n % 1000) ≡ digits 3 n
-unfolding digits
-last-thousand n =
-    let hundreds : n % 1000 / 10 / 10 % 10 ≡ n / 10 / 10 % 10 = omega arith in
-    let tens : n % 1000 / 10 % 10 ≡ n / 10 % 10 = omega arith in
-    let ones : n % 1000 % 10 ≡ n % 10 = omega arith in
-    rw (hundreds, tens, ones)

@@ -1,4 +1,4 @@
-// Numbers in decimal digits, laid over a lent buffer. A digit is told by subtracting its unit: nothing here divides.
+// Numbers in decimal digits, laid over a lent buffer. A digit is told by subtracting its unit, but in put_digits3.
 
 #![tactic(auto)]
 
@@ -83,10 +83,21 @@ pub fn put_digits2(out: &mut [u8], at: usize, n: u8) -> usize
     put_last_digits(out, at, n as u16, 2)
 }
 
+// The last decimal digit of a number.
+fn digit(n: usize) -> u8
+    ensures { result ≡ 48 + n % 10 }
+{
+    (48 + n % 10) as u8
+}
+
+// For any number; the subtraction above takes a u16.
 pub fn put_digits3(out: &mut [u8], at: usize, n: usize) -> usize
     ensures { Wrote out.old at (digits 3 n) out.new result }
 {
-    put_last_digits(out, at, (n % 1000) as u16, 3)
+    let tens = n / 10;
+    let p = output::put_byte(out, at, digit(tens / 10));
+    let p = output::put_byte(out, p, digit(tens));
+    output::put_byte(out, p, digit(n))
 }
 
 // Where the digits of a number start, its leading zeros passed over.

@@ -1,9 +1,9 @@
--- `put_digits3` writes the last three digits of the last thousand.
+-- `put_digits3` writes the last three digits.
 -- Assumes nothing.
-use mathlib.Core.Path.{sym}
-use Rattle.output.proofs.Laws.{wrote_as}
-use Rattle.numbers.proofs.Digits.{last-thousand}
+use Rattle.meaning.specs.Document.{digits}
+use Rattle.output.proofs.Laws.{◌⨟◌, wrote_as}
 use Rattle.numbers.proofs.put_digits3.Goals as goal
 
 pub returns : goal.returns
-returns c = wrote_as (sym (last-thousand c.args.n)) c.put_last_digits.ensures
+unfolding digits
+returns c = wrote_as (cc) (c.put_byte-p.ensures ⨟ c.put_byte-p-2.ensures ⨟ c.put_byte.ensures)
