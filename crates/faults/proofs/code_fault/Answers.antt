@@ -1,4 +1,6 @@
 use native.Mathlib.Omega.{arith}
+use mathlib.Core.Path.{ap}
+use mathlib.Core.Bool.{not}
 use Rattle.charset.proofs.Laws.{read-on}
 use Rattle.faults.proofs.TokenSearch.{codes-start, codes-found, codes-more, codes-end}
 use Rattle.faults.proofs.code_fault.Goals as goal
@@ -8,7 +10,7 @@ loop-at-init c = codes-start _ _
 
 pub returns-then-not-is_listed : goal.returns-then-not-is_listed
 returns-then-not-is_listed c =
-    codes-found c.loop-at.invariant (read-on c.reading_at-read.ensures c.loop-at-test.true) c.is_listed.ensures c.if-not-is_listed.true
+    codes-found c.loop-at.invariant (read-on c.reading_at-read.ensures c.loop-at-test.true) c.is_listed.ensures (ap not c.if-not-is_listed.true)
 
 pub loop-at-smaller : goal.loop-at-smaller
 loop-at-smaller c =
@@ -16,7 +18,7 @@ loop-at-smaller c =
 
 pub loop-at-preserved : goal.loop-at-preserved
 loop-at-preserved c =
-    codes-more c.loop-at.invariant (read-on c.reading_at-read.ensures c.loop-at-test.true) c.is_listed.ensures c.if-not-is_listed.false
+    codes-more c.loop-at.invariant (read-on c.reading_at-read.ensures c.loop-at-test.true) c.is_listed.ensures (ap not c.if-not-is_listed.false)
 
 pub returns : goal.returns
 returns c = codes-end c.loop-at.invariant c.loop-at-test.false
