@@ -17,8 +17,8 @@ overflow_add-k c =
 pub loop-k-preserved : goal.loop-k-preserved
 loop-k-preserved c =
     left-more _ _ _ _ _ c.loop-k.invariant c.loop-k-test.true (good-number _ c.if-refusal-ne0.false) c.well_formed.0.0 c.field-block.ensures
-    c.check_block-w.ensures c.more-place.ensures c.after-at.ensures c.check_block-w.auto.1.1.1.0
-    c.check_block-w.auto.1.1.1.1.0 c.check_block-w.auto.1.1.1.1.1.0
+    c.check_block-w.ensures c.more-place.ensures c.after-at.ensures c.check_block-w.auto.text
+    c.check_block-w.auto.out c.check_block-w.auto.marks
 
 pub returns : goal.returns
 returns c = left-none _ _ _ _ _ c.loop-k.invariant c.loop-k-test.false
