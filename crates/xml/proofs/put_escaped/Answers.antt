@@ -5,7 +5,8 @@ use native.Mathlib.Omega.{arith}
 use mathlib.Core.Path.{◌≡◌}
 use mathlib.Core.Bool.{Bool, true, false, ◌&&◌, ◌||◌}
 use mathlib.Core.List.{[], ◌∷◌}
-use mathlib.Core.Logic.{inl, inr, ⊎_elim}
+use mathlib.Core.Logic.{◌⊎◌, inl, inr, ⊎_elim}
+use Rattle.std.proofs.Common.{rules}
 use lib.Dec.{leb, ltb, eqb}
 use borrow.Author.Tests.{lt-ltb, ltb-true, leb-true, eqb-true, ne_eqb}
 use Rattle.meaning.specs.Document.{utf8, escaped}
@@ -42,5 +43,6 @@ returns-then-c c = wrote_as (common-escaped _ c.if-c.true) c.put_byte.ensures
 pub returns-in_default : goal.returns-in_default
 unfolding escaped
 returns-in_default c =
-    let m = c.in_default.rest.1 in
-    rw (ne_eqb _ 38 (λ e. m (inl e)), ne_eqb _ 60 (λ e. m (inr (inl e))), ne_eqb _ 62 (λ e. m (inr (inr e)))) c.put_utf8.ensures
+    let p = c.args.c in
+    let other : (p ≡ 38) ⊎ ((p ≡ 60) ⊎ (p ≡ 62)) → ⊥ = search rules in
+    rw (ne_eqb p 38 (λ e. other (inl e)), ne_eqb p 60 (λ e. other (inr (inl e))), ne_eqb p 62 (λ e. other (inr (inr e)))) c.put_utf8.ensures
