@@ -2,7 +2,7 @@
 -- Assumes nothing.
 use Prim.Native.Nat.{ℕ}
 use mathlib.Core.Path.{◌≡◌, refl, sym, ap, ◌∙◌}
-use mathlib.Core.Bool.{Bool, true, false, cond, not, ◌&&◌, ◌||◌, and_true}
+use mathlib.Core.Bool.{Bool, true, false, cond, not, ◌&&◌, ◌||◌, and-true}
 use mathlib.Core.List.{List, [], ◌∷◌, ◌++◌}
 use lib.Dec.{eqb}
 use borrow.Author.Tests.{eq-eqb, eqb-true, not-true, not-false}
@@ -69,7 +69,7 @@ foreground_more fore cs p n t =
     kept false false e = refl
 
 all-last : {A : Type 0} (p : A → Bool) (xs : List A) (x : A) → all p xs ≡ true → all p (xs ++ (x ∷ [])) ≡ p x
-all-last p xs x e = all_end p xs x ∙ rw e (and_true (p x))
+all-last p xs x e = all_end p xs x ∙ rw e (and-true (p x))
 
 -- the two tests, with what is known put in
 fits_by : (l : Look) (c : Cell) (s f : ℕ) → shared l ≡ s → free l ≡ f → fits l c ≡ (eqb (shared c.look) s && (is_blank c || eqb (free c.look) f))

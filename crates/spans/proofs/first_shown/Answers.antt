@@ -1,5 +1,4 @@
 use mathlib.Core.Path.{sym, ◌∙◌}
-use borrow.Author.Tests.{not-true, not-false}
 use Rattle.spans.proofs.Trimming.{front-start, front_turn, front_stop, front-end}
 use Rattle.spans.proofs.first_shown.Goals as goal
 
@@ -8,11 +7,11 @@ loop-i-init c = front-start _ _ _
 
 pub returns-then-not-is_blank_on_black : goal.returns-then-not-is_blank_on_black
 returns-then-not-is_blank_on_black c =
-    front_stop c.loop-i.invariant c.loop-i-test.true (sym c.is_blank_on_black.ensures ∙ not-true _ c.if-not-is_blank_on_black.true)
+    front_stop c.loop-i.invariant c.loop-i-test.true (sym c.is_blank_on_black.ensures ∙ c.if-not-is_blank_on_black.true)
 
 pub loop-i-preserved : goal.loop-i-preserved
 loop-i-preserved c =
-    front_turn c.loop-i.invariant c.loop-i-test.true (sym c.is_blank_on_black.ensures ∙ not-false _ c.if-not-is_blank_on_black.false)
+    front_turn c.loop-i.invariant c.loop-i-test.true (sym c.is_blank_on_black.ensures ∙ c.if-not-is_blank_on_black.false)
 
 pub returns : goal.returns
 returns c = front-end c.loop-i.invariant c.loop-i-test.false

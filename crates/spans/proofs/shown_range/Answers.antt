@@ -7,7 +7,7 @@ use Rattle.spans.proofs.Trimming.{front-range}
 use Rattle.spans.proofs.shown_range.Goals as goal
 
 pub end_shown-end-requires : goal.end_shown-end-requires
-end_shown-end-requires c κs = ((front-range _ _ _ c.first_shown-start.ensures).0, search rules, search rules)
+end_shown-end-requires c = ((front-range _ _ _ c.first_shown-start.ensures).0, search rules, search rules)
 
 pub returns : goal.returns
 unfolding shown_range shown

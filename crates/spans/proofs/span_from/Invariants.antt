@@ -5,7 +5,7 @@ use Rattle.spans.proofs.Spanning.{GrownTo}
 use Rattle.spans.proofs.span_from.Given as goal
 
 abbrev pub invariant-loop-i : goal.invariant-loop-i
-invariant-loop-i l =     (l.start < l.i) × (l.i ≤ l.end) × GrownTo l.characters l.looks l.start l.end l.i l.fore
+invariant-loop-i l = (l.start < l.i) × (l.i ≤ l.end) × GrownTo l.characters l.looks l.start l.end l.i l.fore
 
 abbrev pub decreases-loop-i : goal.decreases-loop-i
 decreases-loop-i l = l.end - l.i
