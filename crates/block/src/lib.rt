@@ -1,5 +1,5 @@
-// One block of an EBU STL file: a view of its bytes, its header and its text. A view holds a reference, so each function over
-// it is proved by hand and does one thing; the work on plain slices stands in `parts` and `read`.
+// One block of an EBU STL file: a view of its bytes, its header and its text. The work on plain slices stands in `parts` and
+// `read`.
 
 #![tactic(auto)]
 
@@ -40,7 +40,7 @@ impl<'a> Block<'a> {
     }
 }
 
-// The header of a block's bytes. A caller of this has a plain slice, and needs no proof by hand.
+// The header of a block's bytes.
 pub fn header_of(bytes: &[u8]) -> Header
     ensures { result ≡ header_of bytes.now }
 {

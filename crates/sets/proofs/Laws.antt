@@ -9,7 +9,7 @@ use mathlib.Core.Option.{some}
 use lib.Dec.{leb, eqb}
 use lib.ListN.{length, take, length-append}
 use lib.Seq.{take_at, length-take-le}
-use borrow.Author.Tests.{eq-eqb, ne_eqb, leb-true, leb-false, le-leb, lt-leb, not-true, not-false}
+use borrow.Author.Tests.{eq-eqb, ne_eqb, leb-true, leb-false, le-leb, lt-leb}
 use Rattle.meaning.specs.declared.Refusal.{Refusal}
 use Rattle.meaning.specs.declared.Header.{Header}
 use Rattle.meaning.specs.declared.Format.{Format}
@@ -149,14 +149,11 @@ module _ (f : Format) (place : ℕ) (b : List ℕ) (s : Sets) (text : List ℕ) 
     room-is : leb (text_end s.current + length (block_text b)) (length text) ≡ room
     room-is = rw (sym te, sym pt) (sym hr)
 
-    pub on-full : not room ≡ true → Told NoRoom text
+    pub on-full : room ≡ false → Told NoRoom text
     unfolding step_in text_after has_room
-    on-full z = let e = not-true room z in (rw (other, room-is, e), rw (other, room-is, e))
+    on-full e = (rw (other, room-is, e), rw (other, room-is, e))
 
-    module _ (ok : not room ≡ false) {text' : List ℕ} {size : ℕ} (w : Wrote text at part text' size) where
-      fits : room ≡ true
-      fits = not-false room ok
-
+    module _ (fits : room ≡ true) {text' : List ℕ} {size : ℕ} (w : Wrote text at part text' size) where
       stored-text : text' ≡ text_after b s text
       unfolding text_after has_room
       stored-text = rw (other, room-is, fits, sym te, sym pt) w.held

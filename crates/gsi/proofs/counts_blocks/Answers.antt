@@ -13,4 +13,4 @@ pub returns : goal.returns
 unfolding tnb
 returns c =
     let d = c.read_decimal-tnb.ensures in
-    rw (d.0, d.1.0, c.field.ensures)
+    rw (d.valid, d.value, c.field.ensures)

@@ -11,8 +11,8 @@ read_decimal-rows-requires c = rw c.field.ensures (le_trans (field-length _ _ _)
 
 pub overflow_cast-result : goal.overflow_cast-result
 overflow_cast-result c =
-    omega (arith, below 2 c.read_decimal-rows.result.value _ c.read_decimal-rows.ensures.1.1 (rw c.field.ensures (le_trans (field-length _ _ _) (omega arith))))
+    omega (arith, below 2 c.read_decimal-rows.result.value _ c.read_decimal-rows.ensures.small (rw c.field.ensures (le_trans (field-length _ _ _) (omega arith))))
 
 pub returns : goal.returns
 unfolding mnr
-returns c = rw (c.read_decimal-rows.ensures.1.0, c.field.ensures)
+returns c = rw (c.read_decimal-rows.ensures.value, c.field.ensures)

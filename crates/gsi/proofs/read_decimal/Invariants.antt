@@ -9,7 +9,7 @@ use Rattle.meaning.specs.Lists.{all}
 use Rattle.gsi.proofs.read_decimal.Given as goal
 
 abbrev pub invariant-loop-i : goal.invariant-loop-i
-invariant-loop-i l =     (l.i ≤ length l.digits)
+invariant-loop-i l = (l.i ≤ length l.digits)
     × (l.value < 10 ^ l.i)
     × (all is_digit (drop l.i l.digits) ≡ all is_digit l.digits)
     × (value_from l.value (drop l.i l.digits) ≡ value_from 0 l.digits)

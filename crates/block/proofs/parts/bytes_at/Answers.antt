@@ -8,4 +8,4 @@ use Rattle.block.proofs.parts.bytes_at.Goals as goal
 
 pub returns : goal.returns
 unfolding field block_at
-returns c = c.field.ensures ∙ rw (drop-within _ _ _ c.start_of_lem.ensures)
+returns c = c.field.ensures ∙ rw (drop-within _ _ _ c.start_of.ensures)

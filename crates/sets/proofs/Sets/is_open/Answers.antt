@@ -6,8 +6,8 @@ use Rattle.sets.proofs.Sets.is_open.Goals as goal
 
 pub returns-in-Between : goal.returns-in-Between
 unfolding is_open assembly_of current_of
-returns-in-Between c text = rw c.enum_told-1.given.1
+returns-in-Between c text = rw c.in-Between.is
 
 pub returns-in-Open : goal.returns-in-Open
 unfolding is_open assembly_of current_of
-returns-in-Open c text = rw c.enum_told-in-Open-1.given.1
+returns-in-Open c text = rw c.in-Open.is
