@@ -2,7 +2,6 @@ use native.Mathlib.Omega.{arith}
 use mathlib.Core.Path.{◌≡◌, refl, sym, ◌∙◌}
 use lib.ListN.{length}
 use borrow.Author.Rules.{rules}
-use Rattle.meaning.specs.Gsi.{is_digit}
 use Rattle.gsi.proofs.Digits.{digit_next, digit_missing, value_next, digits-ended, digit_range, below_next, below, no_number, a_number}
 use Rattle.gsi.proofs.read_decimal.Goals as goal
 
