@@ -1,3 +1,5 @@
+-- `packed` gives a character as one number.
+-- Assumes nothing.
 use Rattle.cells.specs.Arrays.{packed}
 use Rattle.std.proofs.Common.{rules}
 use Rattle.cells.proofs.packed.Goals as goal

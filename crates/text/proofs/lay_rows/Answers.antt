@@ -5,23 +5,8 @@ use Rattle.text.proofs.Laws.{laid_lengths}
 use Rattle.text.proofs.RowsLaying.{rows_all, rows_less, rows_none}
 use Rattle.text.proofs.lay_rows.Goals as goal
 
-pub lay_row-first-requires : goal.lay_row-first-requires
-lay_row-first-requires c = tt
-
 pub loop-more-init : goal.loop-more-init
 loop-more-init c = rows_all _ _ c.lay_row-first.ensures
-
-pub row_after-at-requires : goal.row_after-at-requires
-row_after-at-requires c = tt
-
-pub put_break-requires : goal.put_break-requires
-put_break-requires c = tt
-
-pub lay_row-row-requires : goal.lay_row-row-requires
-lay_row-row-requires c = tt
-
-pub capped_sum-rows-requires : goal.capped_sum-rows-requires
-capped_sum-rows-requires c = tt
 
 pub overflow_cast-rows-in-loop-more : goal.overflow_cast-rows-in-loop-more
 overflow_cast-rows-in-loop-more c = omega (arith, c.capped_sum-rows.ensures)
@@ -40,11 +25,11 @@ loop-more-preserved c =
     rows_less _ _ c.loop-more.invariant c.loop-more-test.true c.row_after-at.ensures c.put_break.ensures c.lay_row-row.ensures
     c.capped_sum-rows.ensures
 
+pub returns : goal.returns
+returns c = rows_none _ _ c.lay_row-first.ensures c.loop-more.invariant c.loop-more-test.false
+
 pub shape_of-out : goal.shape_of-out
 shape_of-out c = (laid_lengths (returns c).laid).0
 
 pub shape_of-marks : goal.shape_of-marks
 shape_of-marks c = (laid_lengths (returns c).laid).1
-
-pub returns : goal.returns
-returns c = rows_none _ _ c.lay_row-first.ensures c.loop-more.invariant c.loop-more-test.false

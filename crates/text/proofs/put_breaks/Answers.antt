@@ -17,11 +17,11 @@ loop-k-preserved c =
     let l = c.loop-k in
     (search rules, rw (← replicate-append-replicate l.k 1 br) (wrote-more write_piece _ br l.invariant.1 c.put_break-p.ensures))
 
-pub shape_of-out : goal.shape_of-out
-shape_of-out c = wrote-length (returns c)
-
 pub returns : goal.returns
 returns c =
     let l = c.loop-k in
     let z : c.args.n ≡ l.k = omega arith in
     rw z l.invariant.1
+
+pub shape_of-out : goal.shape_of-out
+shape_of-out c = wrote-length (returns c)

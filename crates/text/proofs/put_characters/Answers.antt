@@ -18,8 +18,8 @@ loop-i-preserved c =
     let h = c.loop-i-test.true in
     (search rules, rw (add-one, take-suc {A = ℕ} _ l.i 0 h) (character-more _ _ l.invariant.1 c.put_character-p.ensures))
 
-pub shape_of-out : goal.shape_of-out
-shape_of-out c = wrote-length (returns c)
-
 pub returns : goal.returns
 returns c = let l = c.loop-i in rw (take_all l.i _ c.loop-i-test.false) at l.invariant.1
+
+pub shape_of-out : goal.shape_of-out
+shape_of-out c = wrote-length (returns c)

@@ -1,3 +1,5 @@
+-- `takes_cell` tells a token that takes a cell: a case for each, as in the definition.
+-- Assumes nothing.
 use Rattle.meaning.specs.Codes.{takes_cell}
 use Rattle.std.proofs.Common.{rules}
 use Rattle.cells.proofs.drawing.takes_cell.Goals as goal
