@@ -5,7 +5,7 @@ use Rattle.store.specs.Numbers.{numbers_of}
 use Rattle.store.proofs.saving.numbers_of.Goals as goal
 
 pub overflow_cast-result-16 : goal.overflow_cast-result-16
-overflow_cast-result-16 c = omega (arith, c.struct_known-16-1.given)
+overflow_cast-result-16 c = omega arith
 
 pub returns : goal.returns
 unfolding numbers_of

@@ -5,8 +5,8 @@ use Rattle.store.proofs.saving.open_number.Goals as goal
 
 pub returns-in-Between : goal.returns-in-Between
 unfolding open_number
-returns-in-Between c = rw c.enum_told-1.given.1
+returns-in-Between c = rw c.in-Between.is
 
 pub returns-in-Open : goal.returns-in-Open
 unfolding open_number
-returns-in-Open c = rw c.enum_told-in-Open-1.given.1
+returns-in-Open c = rw c.in-Open.is

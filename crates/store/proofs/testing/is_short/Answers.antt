@@ -5,8 +5,8 @@ use Rattle.store.proofs.testing.is_short.Goals as goal
 
 pub returns-in-Between : goal.returns-in-Between
 unfolding is_short_current
-returns-in-Between c = rw c.enum_told-1.given.1
+returns-in-Between c = rw c.in-Between.is
 
 pub returns-in-Open : goal.returns-in-Open
 unfolding is_short_current
-returns-in-Open c = rw c.current-1.given.1 c.is_short_set.ensures
+returns-in-Open c = rw c.in-Open.is c.is_short_set.ensures
