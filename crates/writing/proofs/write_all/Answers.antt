@@ -7,7 +7,7 @@ pub loop-k-init : goal.loop-k-init
 loop-k-init c = written_none _ _ _ _ _ _ refl
 
 pub write_block-w-requires : goal.write_block-w-requires
-write_block-w-requires c κs =
+write_block-w-requires c =
     written-ready _ _ _ _ _ c.loop-k.invariant _ c.requires c.loop-k-test.true
 
 pub overflow_add-k : goal.overflow_add-k
@@ -16,8 +16,8 @@ overflow_add-k c =
 
 pub loop-k-preserved : goal.loop-k-preserved
 loop-k-preserved c =
-    written-more _ _ _ _ _ c.loop-k.invariant c.loop-k-test.true c.bytes_at-bytes.ensures c.write_block-w.auto.1.1.1.0
-    c.write_block-w.auto.1.1.1.1.0 c.write_block-w.auto.1.1.1.1.1.0 c.write_block-w.ensures
+    written-more _ _ _ _ _ c.loop-k.invariant c.loop-k-test.true c.bytes_at-bytes.ensures c.write_block-w.auto.text
+    c.write_block-w.auto.out c.write_block-w.auto.marks c.write_block-w.ensures
 
 pub returns : goal.returns
 returns c = written_all _ _ _ _ _ c.loop-k.invariant c.loop-k-test.false
