@@ -2,4 +2,3 @@
 // keeps of a file is known. There is no code here.
 
 #![tactic(auto)]
-
