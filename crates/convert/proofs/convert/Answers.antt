@@ -6,8 +6,12 @@ use Rattle.convert.proofs.convert.Goals as goal
 
 pub returns-then-a-ne0 : goal.returns-then-a-ne0
 returns-then-a-ne0 c =
-    right-refused _ _ _ c.examine-e.ensures.0 (λ i. omega (arith, c.shared_slice_known-1.given i)) c.if-a-ne0.true
+    let e = c.examine-e.ensures in
+    let r = right-refused _ _ _ e.answer (λ i. omega (arith, c.type_inv.file i)) c.if-a-ne0.true in
+    record { answer = r.0; buffer = r.1.0; fewest = r.1.1 }
 
 pub returns : goal.returns
 returns c =
-    right-written _ _ _ c.examine-e.ensures.0 (λ i. omega (arith, c.shared_slice_known-1.given i)) c.if-a-ne0.false c.examine-e.ensures.1.1 c.write.ensures
+    let e = c.examine-e.ensures in
+    let r = right-written _ _ _ e.answer (λ i. omega (arith, c.type_inv.file i)) c.if-a-ne0.false e.marks c.write.ensures in
+    record { answer = r.0; buffer = r.1.0; fewest = r.1.1 }

@@ -4,4 +4,4 @@ use Rattle.convert.proofs.Converting.{refusal-told}
 use Rattle.convert.proofs.refusal.Goals as goal
 
 pub returns : goal.returns
-returns c = let e = c.examine-examined.ensures in refusal-told _ _ _ e.0 e.1.0
+returns c = let e = c.examine-examined.ensures in refusal-told _ _ _ e.answer e.offset
