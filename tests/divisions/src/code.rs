@@ -35,12 +35,21 @@ fn skipped(rest: &str, before: Option<char>) -> usize {
         return rest.find(';').unwrap_or(rest.len());
     }
     for keyword in ["requires", "ensures"] {
-        let clause = rest.strip_prefix(keyword).map(str::trim_start).filter(|c| c.starts_with('{'));
-        if let Some(clause) = clause {
+        if let Some(clause) = rest.strip_prefix(keyword).and_then(clause) {
             return rest.len() - clause.len() + braces(clause);
         }
     }
     0
+}
+
+/// The clause in braces, behind a star or its name if there is one.
+fn clause(behind: &str) -> Option<&str> {
+    if is_word(behind.chars().next()) {
+        return None;
+    }
+    let name = behind.strip_prefix('*').unwrap_or(behind).trim_start();
+    let clause = name.trim_start_matches(|c| is_word(Some(c))).trim_start();
+    clause.starts_with('{').then_some(clause)
 }
 
 fn is_word(c: Option<char>) -> bool {
@@ -97,9 +106,16 @@ mod tests {
     }
 
     #[test]
+    fn contracts_may_have_names_and_stars() {
+        let source = "ghost use P.{\n    ◌/◌, ◌%◌,\n};\nfn f(n: &mut u8)\n    requires* { n / 2 }\n    ensures small { n.new / { 3 } }\n    ensures rest { n.new ≡ n.old % 10 }\n    ensures* kept_2 { n % 2 }\n{\n    n % 7\n}";
+        assert_eq!(words(source), [";", "fn", "f(n:", "&mut", "u8)", "{", "n", "%", "7", "}"]);
+    }
+
+    #[test]
     fn names_that_begin_or_end_alike_are_code() {
         assert_eq!(words("if ensures_more { a / b }"), ["if", "ensures_more", "{", "a", "/", "b", "}"]);
         assert_eq!(words("x.ensures / 3; mob'/'"), ["x.ensures", "/", "3;", "mob'/'"]);
+        assert_eq!(words("ensures / { a }; ensures.x { a / b }"), ["ensures", "/", "{", "a", "};", "ensures.x", "{", "a", "/", "b", "}"]);
     }
 
     #[test]
