@@ -14,7 +14,7 @@ unfolding offset_in
 returns-then-r-lt7 c = rw (c.if-r.false, lt-ltb _ 7 c.if-r-lt7.true)
 
 pub block_start-requires : goal.block_start-requires
-block_start-requires c κs =
+block_start-requires c =
     omega (arith, c.requires c.if-r-lt7.false c.if-r-lt13.true)
 
 pub overflow_add-result : goal.overflow_add-result

@@ -5,11 +5,12 @@ use Rattle.explain.proofs.text_offset.Goals as goal
 
 -- the result is a place in the file
 pub block_start-requires : goal.block_start-requires
-block_start-requires c κs =
+block_start-requires c =
     omega (arith, text-within c.args.file.now c.loop-k.k c.loop-k.left c.block_count-n.ensures c.loop-k-test.true (rw c.text_size-size.ensures at c.if-left-size.true))
 
 pub overflow_add-result : goal.overflow_add-result
-overflow_add-result c = omega (arith, add-result-2 c)
+overflow_add-result c =
+    omega (arith, c.block_start.ensures, text-within c.args.file.now c.loop-k.k c.loop-k.left c.block_count-n.ensures c.loop-k-test.true (rw c.text_size-size.ensures at c.if-left-size.true))
 
 pub overflow_add-result-then-left-size : goal.overflow_add-result-then-left-size
 overflow_add-result-then-left-size c =
