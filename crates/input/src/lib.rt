@@ -26,7 +26,7 @@ pub fn mode_of(digit: u8) -> u64
     }
 }
 
-// Reads until the buffer is full or the input ends: how many bytes stand at its start then. A read that fails ends it.
+// Reads until the buffer is full or the input ends, and tells how many bytes it put at the start of the buffer. A read that fails is its error.
 pub fn read_full<R: Read>(reader: &mut R, buffer: &mut [u8]) -> io::Result<usize>
     ensures count { ReadsAtMost result buffer.new }
     ensures bytes { IfOk result (λ n. Consumes (R.remaining reader.old) (R.remaining reader.new) (take n buffer.new)) }
