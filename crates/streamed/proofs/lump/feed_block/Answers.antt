@@ -6,19 +6,22 @@ use Rattle.streamed.proofs.Feeding.{can_walk, block-fed, block_copied}
 use Rattle.streamed.proofs.lump.feed_block.Goals as goal
 
 pub walk-requires : goal.walk-requires
-walk-requires c κs =
+walk-requires c =
     let p = c.requires in
-    can_walk _ _ p.0 p.1.0 p.1.1.0 _ p.1.1.1 c.feed_part-grown.ensures.0 c.feed_part-grown.ensures.1
+    let e = c.feed_part-grown.ensures in
+    let w = can_walk _ _ p.store_len p.store_value p.gsi_value _ p.bytes_value e.state e.store in
+    record { store_len = w.0; gsi_le_gsi_size = w.1.0; count_bound = w.1.1.0; store_value = w.1.1.1 }
 
 pub returns : goal.returns
 returns c =
     let e = c.feed_part-grown.ensures in
     let p = c.requires in
-    let l = (can_walk _ _ p.0 p.1.0 p.1.1.0 _ p.1.1.1 e.0 e.1).0 in
-    let b = block_copied _ l c.field.ensures c.put.ensures in (
-      block-fed _ _ p.0 p.1.0 p.1.1.0 _ p.1.1.1 e.0 e.1 b c.walk.ensures.0,
-      (
-        c.walk.ensures.1.0 ∙ ap (λ (s : State). s.gsi) e.0 ∙ p.1.1.0,
-        (c.walk.ensures.1.1.0, c.walk.ensures.1.1.1 ∙ ap (λ (s : State). s.phase) e.0),
-      ),
-    )
+    let l = (can_walk _ _ p.store_len p.store_value p.gsi_value _ p.bytes_value e.state e.store).0 in
+    let b = block_copied _ l c.field.ensures c.put.ensures in
+    let w = c.walk.ensures in
+    record {
+      check = block-fed _ _ p.store_len p.store_value p.gsi_value _ p.bytes_value e.state e.store b w.check;
+      gsi = w.gsi ∙ ap (λ (s : State). s.gsi) e.state ∙ p.gsi_value;
+      part = w.part;
+      phase = w.phase ∙ ap (λ (s : State). s.phase) e.state;
+    }

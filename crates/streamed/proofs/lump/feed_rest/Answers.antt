@@ -10,33 +10,47 @@ use Rattle.streamed.proofs.lump.feed_rest.Goals as goal
 pub overflow_sub-lacking : goal.overflow_sub-lacking
 overflow_sub-lacking c =
     let p = c.requires in
-    let h = part_low _ _ p.0 p.1.0 in
+    let h = part_low _ _ p.store_len p.store_value in
     omega (arith, h)
 
 pub returns-then-bytes-lacking : goal.returns-then-bytes-lacking
 returns-then-bytes-lacking c =
     let p = c.requires in
-    let h = part_low _ _ p.0 p.1.0 in (
-      part-fed _ _ p.0 p.1.0 p.1.1 _ (omega (arith, c.if-bytes-lacking.true, h)) c.feed_part.ensures.0 c.feed_part.ensures.1,
-      ap (λ (s : State). s.phase) c.feed_part.ensures.0,
-    )
+    let h = part_low _ _ p.store_len p.store_value in
+    let e = c.feed_part.ensures in
+    record {
+      check = part-fed _ _ p.store_len p.store_value p.gsi_value _ (omega (arith, c.if-bytes-lacking.true, h)) e.state e.store;
+      phase = ap (λ (s : State). s.phase) e.state;
+    }
 
 pub slice_bounds-feed_block-end : goal.slice_bounds-feed_block-end
 slice_bounds-feed_block-end c = sym (length-take-le _ _ (omega (arith, c.if-bytes-lacking.false)))
 
 pub feed_block-begun-requires : goal.feed_block-begun-requires
-feed_block-begun-requires c κs =
+feed_block-begun-requires c =
     let p = c.requires in
-    let h = part_low _ _ p.0 p.1.0 in
+    let h = part_low _ _ p.store_len p.store_value in
     let n = length-take-le _ c.args.bytes.now c.if-bytes-lacking.false in
-    (p.0, (p.1.0, (p.1.1, omega (arith, n, h))))
+    record {
+      store_len = p.store_len;
+      store_value = p.store_value;
+      gsi_value = p.gsi_value;
+      bytes_value = omega (arith, n, h);
+    }
 
 pub feed_blocks-requires : goal.feed_blocks-requires
-feed_blocks-requires c κs =
+feed_blocks-requires c =
     let p = c.requires in
     let e = c.feed_block-begun.ensures in
-    (c.feed_block-begun.auto.0 ∙ p.0, (fed_soundly _ _ p.1.0 e.0, (e.1.0, e.1.1.0)))
+    record {
+      store_len = c.feed_block-begun.auto.store ∙ p.store_len;
+      store_value = fed_soundly _ _ p.store_value e.check;
+      gsi_value = e.gsi;
+      part_value = e.part;
+    }
 
 pub returns : goal.returns
 returns c =
-    (fed-cut _ _ _ c.feed_block-begun.ensures.0 c.feed_blocks.ensures.0, c.feed_blocks.ensures.1 ∙ c.feed_block-begun.ensures.1.1.1)
+    let b = c.feed_block-begun.ensures in
+    let e = c.feed_blocks.ensures in
+    record { check = fed-cut _ _ _ b.check e.check; phase = e.phase ∙ b.phase }

@@ -13,12 +13,16 @@ use Rattle.streamed.proofs.lump.walk.Goals as goal
 
 pub returns : goal.returns
 returns c =
-    let p = c.requires in (
-      walk_checked _ _ p.0 p.1.1.0 p.1.1.1 _ _ _ refl p.1.0
+    let p = c.requires in
+    record {
+      check =
+          walk_checked _ _ p.store_len p.count_bound p.store_value _ _ _ refl p.gsi_le_gsi_size
           (c.format-f.ensures ∙ ap (format_of _) c.field.ensures)
           (c.flags_in.ensures ∙ ap (λ (l : List ℕ). flags_over l (replicate look_count false)) c.field-2.ensures) c.fitting-m.ensures
-          c.check_more-w.ensures c.check_more-w.auto.1.1.1.1.1.0
-          (c.check_more-w.auto.1.1.1.1.1.1.0 ∙ c.flags_in.auto.1.0 ∙ length-replicate look_count false)
-          c.put_flags.ensures (c.least.ensures ∙ rw c.after.ensures refl),
-      (refl, (refl, refl)),
-    )
+          c.check_more-w.ensures c.check_more-w.auto.out
+          (c.check_more-w.auto.marks ∙ c.flags_in.auto.on ∙ length-replicate look_count false)
+          c.put_flags.ensures (c.least.ensures ∙ rw c.after.ensures refl);
+      gsi = refl;
+      part = refl;
+      phase = refl;
+    }
