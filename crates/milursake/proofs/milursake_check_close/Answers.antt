@@ -9,4 +9,9 @@ pub returns : goal.returns
 returns c =
     let e = c.close_check-a.ensures in
     let numbers = c.args.numbers.now in
-    (ap (λ a. a.number) e.0, (c.put_answer.ensures ∙ ap (λ a. stored numbers 0 (numbers_of a)) e.0, e.1))
+    record {
+      number = ap (λ a. a.number) e.answer;
+      stored = c.put_answer.ensures ∙ ap (λ a. stored numbers 0 (numbers_of a)) e.answer;
+      check = e.check;
+      store = e.store;
+    }

@@ -8,6 +8,12 @@ use Rattle.milursake.proofs.milursake_convert.Goals as goal
 
 pub returns : goal.returns
 returns c =
-    let e = c.convert-a.ensures.0 in
+    let v = c.convert-a.ensures in
+    let e = v.answer in
     let numbers = c.args.numbers.now in
-    (ap (λ a. a.number) e, (c.convert-a.ensures.1.0, (c.put_answer.ensures ∙ ap (λ a. stored numbers 0 (numbers_of a)) e, fewest-told e c.convert-a.ensures.1.1)))
+    record {
+      number = ap (λ a. a.number) e;
+      buffer = v.buffer;
+      stored = c.put_answer.ensures ∙ ap (λ a. stored numbers 0 (numbers_of a)) e;
+      fewest = fewest-told e v.fewest;
+    }

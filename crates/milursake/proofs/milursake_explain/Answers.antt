@@ -8,6 +8,10 @@ use Rattle.milursake.proofs.milursake_explain.Goals as goal
 
 pub returns : goal.returns
 returns c =
-    let e = c.explain-r.ensures.0 in
+    let e = c.explain-r.ensures.reason in
     let numbers = c.args.numbers.now in
-    (ap (λ r. r.number) e, (c.put_reason.ensures ∙ ap (λ r. stored numbers 0 (reason_numbers r)) e, reason-told _ _ _))
+    record {
+      number = ap (λ r. r.number) e;
+      stored = c.put_reason.ensures ∙ ap (λ r. stored numbers 0 (reason_numbers r)) e;
+      told = reason-told _ _ _;
+    }

@@ -5,8 +5,8 @@ use Rattle.milursake.proofs.presence.Goals as goal
 
 pub returns-in-Absent : goal.returns-in-Absent
 unfolding presence_of
-returns-in-Absent c = rw c.enum_told-1.given.1
+returns-in-Absent c = rw c.in-Absent.is
 
 pub returns-in-Present : goal.returns-in-Present
 unfolding presence_of
-returns-in-Present c = rw c.enum_told-in-Present-1.given.1
+returns-in-Present c = rw c.in-Present.is

@@ -5,8 +5,8 @@ use Rattle.milursake.proofs.value.Goals as goal
 
 pub returns-in-Absent : goal.returns-in-Absent
 unfolding value_of
-returns-in-Absent c = rw c.enum_told-1.given.1
+returns-in-Absent c = rw c.in-Absent.is
 
 pub returns-in-Present : goal.returns-in-Present
 unfolding value_of
-returns-in-Present c = rw c.byte-1.given.1
+returns-in-Present c = rw c.in-Present.is
