@@ -30,10 +30,10 @@ later c e (closed before next after f r) = later c (f ∙ rw e (ap some (over c)
 
 pub promise : Promise
 unfolding opened_in closed_in answer_in
-promise mode room lumps lent openStore fedStore closed_store l o f k =
-    let e : check_of openStore ≡ some (opened mode room) = o ∙ rw (eq-eqb _ store_size l) refl in
+promise mode room lumps lent open_store fed_store closed_store l o f k =
+    let e : check_of open_store ≡ some (opened mode room) = o ∙ rw (eq-eqb _ store_size l) refl in
     let c = feed_all (opened mode room) lumps in
-    let g : check_of fedStore ≡ some c = fed_by (opened mode room) e f in
+    let g : check_of fed_store ≡ some c = fed_by (opened mode room) e f in
     let d : check_of closed_store ≡ some (close c) = k ∙ rw g refl in
     record {
       answered = rw g (any_cutting mode room lumps);

@@ -21,12 +21,12 @@ pub data Later : List ℕ → List ℕ → Type 0 where
   closed : (before next after : List ℕ) → check_of next ≡ closed_in (check_of before) → Later next after → Later before after
 
 -- opened, fed lump after lump and closed: the answer is that of the joined file. Fed and closed again, it is the same.
-pub record Kept (mode room : ℕ) (lumps : List (List ℕ)) (fedStore closed_store : List ℕ) : Type 0 where
-  pub answered : answer_in (check_of fedStore) ≡ answer mode (joined lumps) room
+pub record Kept (mode room : ℕ) (lumps : List (List ℕ)) (fed_store closed_store : List ℕ) : Type 0 where
+  pub answered : answer_in (check_of fed_store) ≡ answer mode (joined lumps) room
   pub repeated : (last : List ℕ) → Later closed_store last → answer_in (check_of last) ≡ answer mode (joined lumps) room
 
 abbrev pub Promise : Type 0
 Promise =
-    (mode room : ℕ) (lumps : List (List ℕ)) (lent openStore fedStore closed_store : List ℕ) → length lent ≡ store_size
-    → check_of openStore ≡ opened_in (length lent) mode room → FedBy openStore lumps fedStore → check_of closed_store ≡ closed_in (check_of fedStore)
-    → Kept mode room lumps fedStore closed_store
+    (mode room : ℕ) (lumps : List (List ℕ)) (lent open_store fed_store closed_store : List ℕ) → length lent ≡ store_size
+    → check_of open_store ≡ opened_in (length lent) mode room → FedBy open_store lumps fed_store → check_of closed_store ≡ closed_in (check_of fed_store)
+    → Kept mode room lumps fed_store closed_store

@@ -14,11 +14,11 @@ use Rattle.meaning.proofs.Logic.{and_parts, or_parts}
 use Rattle.output.proofs.Laws.{wrote_as}
 use Rattle.xml.proofs.put_escaped.Goals as goal
 
-abbrev isCommon : ℕ → Bool
-isCommon p = eqb p 32 || (leb 63 p && ltb p 127)
+abbrev is_common : ℕ → Bool
+is_common p = eqb p 32 || (leb 63 p && ltb p 127)
 
 -- a blank or a letter is below 127, and no code between the blank and the letters
-common : (p : ℕ) → isCommon p ≡ true → (p < 127) × ((n : ℕ) → 32 < n → n < 63 → eqb p n ≡ false)
+common : (p : ℕ) → is_common p ≡ true → (p < 127) × ((n : ℕ) → 32 < n → n < 63 → eqb p n ≡ false)
 common p e =
     ⊎_elim
     (λ b. let h = eqb-true p 32 b in (omega arith, λ n i j. ne_eqb p n (λ d. omega arith)))
@@ -28,7 +28,7 @@ common p e =
     (ltb-true p 127 w.1, λ n i j. ne_eqb p n (λ d. omega arith)))
     (or_parts (eqb p 32) (leb 63 p && ltb p 127) e)
 
-common-escaped : (p : ℕ) → isCommon p ≡ true → escaped p ≡ p ∷ []
+common-escaped : (p : ℕ) → is_common p ≡ true → escaped p ≡ p ∷ []
 unfolding escaped utf8
 common-escaped p e =
     let k = common p e in
