@@ -10,7 +10,7 @@ use Rattle.document.proofs.put_alignment.Goals as goal
 
 pub returns-then-jc-lt2 : goal.returns-then-jc-lt2
 unfolding alignment_name bytes
-returns-then-jc-lt2 c = rw (align_left _ c.if-jc-lt2.true) c.put.ensures
+returns-then-jc-lt2 c = let h : c.args.jc < 2 = omega arith in rw (align_left _ h) c.put.ensures
 
 pub returns-then-jc-eq2 : goal.returns-then-jc-eq2
 unfolding alignment_name alignment_of bytes
