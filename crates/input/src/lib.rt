@@ -2,7 +2,7 @@
 
 #![tactic(auto)]
 
-ghost use Rattle.std.specs.Prelude.{◌≡◌, ◌<◌, length, take, IfOk};
+ghost use Rattle.std.specs.Prelude.{◌≡◌, ℕ, ◌<◌, ◌≤◌, length, take, IfOk, OnErr};
 ghost use Rattle.std.specs.Io.{ReadsAtMost};
 ghost use Rattle.std.specs.Io.KnownBytes.{Consumes, IsAtEnd};
 ghost use Rattle.input.specs.Modes.{mode_of};
@@ -26,10 +26,12 @@ pub fn mode_of(digit: u8) -> u64
     }
 }
 
-// Reads until the buffer is full or the input ends, and tells how many bytes it put at the start of the buffer. A read that fails is its error.
+// Reads until the buffer is full or the input ends, and tells how many bytes it put at the start of the buffer. A read that fails
+// is its error, and loses nothing: what was read before stands at the start of the buffer.
 pub fn read_full<R: Read>(reader: &mut R, buffer: &mut [u8]) -> io::Result<usize>
     ensures count { ReadsAtMost result buffer.new }
     ensures bytes { IfOk result (λ n. Consumes (R.remaining reader.old) (R.remaining reader.new) (take n buffer.new)) }
+    ensures failed { OnErr result ((k : ℕ) × ((k ≤ length buffer.new) × Consumes (R.remaining reader.old) (R.remaining reader.new) (take k buffer.new))) }
     ensures end { IfOk result (λ n. n < length buffer.new → IsAtEnd (R.remaining reader.new)) }
 {
     let mut done = 0;
