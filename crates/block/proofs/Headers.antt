@@ -22,5 +22,5 @@ module _ (a b : List ℕ) (e : (j : ℕ) → get_or a j 0 ≡ get_or b j 0) wher
   unfolding header_of
   header-alike = rw (e 0, e 1, e 2, e 3, e 4, time_alike 5, time_alike 9, e 13, e 14, e 15)
 
-pub header-filled : (b : List ℕ) (k : ℕ) → header_of (b ++ drop (length b) (replicate k 0)) ≡ header_of b
-header-filled b k = header-alike _ b (filled b (drop (length b) (replicate k 0)) (λ i. rw get_or-drop (at_copies k (length b + i) 0)))
+pub header_filled : (b : List ℕ) → header_of (b ++ drop (length b) (replicate 16 0)) ≡ header_of b
+header_filled b = header-alike _ b (filled b (drop (length b) (replicate 16 0)) (λ i. rw get_or-drop (at_copies 16 (length b + i) 0)))

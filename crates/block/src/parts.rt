@@ -10,29 +10,23 @@ use meaning::{BLOCK_SIZE, GSI_SIZE};
 fn start_of(size: usize, k: usize) -> usize
     ensures { result ≡ min (gsi_size + block_size * k) size }
 {
-    if size < GSI_SIZE {
-        return size;
-    }
-    if (size - GSI_SIZE) / BLOCK_SIZE < k {
-        return size;
-    }
-    GSI_SIZE + BLOCK_SIZE * k
+    BLOCK_SIZE
+        .saturating_mul(k)
+        .saturating_add(GSI_SIZE)
+        .min(size)
 }
 
 // The n bytes from an offset on, or as many as there are.
+#[tactic(auto, unfolding(meaning::specs::Lists::field))]
 pub fn field(s: &[u8], from: usize, n: usize) -> &[u8]
     ensures { result.now ≡ field from n s.now }
 {
-    if s.len() <= from {
-        return &s[..0];
-    }
-    if s.len() - from <= n {
-        return &s[from..];
-    }
-    &s[from..from + n]
+    let rest = &s[from.min(s.len())..];
+    &rest[..n.min(rest.len())]
 }
 
 // The bytes of block k.
+#[tactic(auto, using(crate::proofs::Fields::drop_within), unfolding(meaning::specs::Lists::field, meaning::specs::Blocks::block_at))]
 pub fn bytes_at(file: &[u8], k: usize) -> &[u8]
     ensures { result.now ≡ block_at file.now k }
 {

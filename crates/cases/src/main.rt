@@ -14,17 +14,12 @@ const ROOM: usize = 65536;
 const MOST: usize = 1000;
 
 // The Adler-32 checksum of the first n bytes.
-fn adler(bytes: &[u8], n: u64) -> u64 {
-    let mut low = 1u64;
-    let mut high = 0u64;
-    let mut i = 0;
-    while i < bytes.len() {
-        if i as u64 >= n {
-            return high * 65536 + low;
-        }
-        low = (low + bytes[i] as u64) % 65521;
+fn adler(bytes: &[u8], n: usize) -> u64 {
+    let mut low = 1;
+    let mut high = 0;
+    for b in bytes.iter().take(n) {
+        low = (low + u64::from(*b)) % 65521;
         high = (high + low) % 65521;
-        i += 1;
     }
     high * 65536 + low
 }
@@ -34,21 +29,19 @@ fn say_name(rt: &impl Print, header: &[u8; 32]) -> io::Result<()> {
     print!(rt; ": ")
 }
 
+// The numbers of an answer in a line, with a blank between them.
 fn say_answer(rt: &impl Print, a: Answer) -> io::Result<()> {
-    print!(rt; "{} {} {} {} ", a.number, a.place, a.length, a.subtitles)?;
-    println!(rt;
-        "{} {} {} {}",
-        a.comments, a.continuations, a.users, a.spans
-    )
+    let numbers = <[u64; 8]>::from(a);
+    print!(rt; "{}", numbers[0])?;
+    for n in &numbers[1..] {
+        print!(rt; " {n}")?;
+    }
+    println!(rt; "")
 }
 
 // Three bytes, the low one first.
 fn number(low: u8, middle: u8, high: u8) -> usize {
-    low as usize + 256 * middle as usize + 65536 * high as usize
-}
-
-fn wide(x: u8) -> u64 {
-    x as u64
+    u32::from_le_bytes([low, middle, high, 0]) as usize
 }
 
 // A header: the name, 24 bytes; the break mode; the room; the file's length; LF.
@@ -61,7 +54,7 @@ struct Case {
 
 fn case_of(header: &[u8; 32]) -> Case {
     Case {
-        mode: wide(header[24]),
+        mode: u64::from(header[24]),
         room: number(header[25], header[26], header[27]),
         length: number(header[28], header[29], header[30]),
     }
@@ -89,7 +82,7 @@ fn run<R: Read>(
     if a.number > 0 {
         return Ok(());
     }
-    println!(rt; "{}", adler(out, a.length))
+    println!(rt; "{}", adler(out, a.length as usize))
 }
 
 // The next case, if there is one.

@@ -1,8 +1,7 @@
-pub mod Keeping
-pub mod Overlay
+pub mod Storing
 pub mod Fronts
-pub mod Decoding
+pub mod Pens
+pub mod Drawn
+pub mod RowLeft
 pub mod Hiding
-pub mod Packing
-pub mod ReadBack
 pub mod Laws

@@ -1,17 +1,18 @@
--- What decoding a row of a text leaves in two arrays, and what it tells.
+-- What decoding a row of a text leaves in an array, and what it tells.
 -- Assumes nothing.
-use Rattle.std.specs.Prelude.{ℕ, ◌≡◌, List, map, length, drop}
+use Rattle.std.specs.Prelude.{ℕ, ◌≡◌, Option, Some, None, cond, List, length, drop}
+use Rattle.std.proofs.lemmas.List.Edits.{sets}
 use Rattle.meaning.specs.declared.Token.{Token}
 use Rattle.meaning.specs.Codes.{tokens}
 use Rattle.meaning.specs.declared.Look.{Look}
 use Rattle.meaning.specs.Looks.{pack, unpack}
-use Rattle.meaning.specs.Cells.{Cell, Pen, cell_of, cells_from, pen_end, row_start, cells_of_row}
-use Rattle.charset.specs.Plain.{plain_token}
+use Rattle.meaning.specs.Cells.{Cell, Pen, cells_from, pen_end, row_start, cells_of_row}
 use Rattle.charset.specs.Reading.{after_row_at}
 use Rattle.meaning.specs.Rows.{first_row}
 use Rattle.rows.specs.Scanned.{is_ended}
+use Rattle.cells.specs.declared.PackedCell.{PackedCell}
 use Rattle.cells.specs.declared.RowRead.{RowRead}
-use Rattle.cells.specs.Arrays.{character, packed_look, CellsStored}
+use Rattle.cells.specs.Packed.{packed_cells}
 
 abbrev pub tokens_from : List ℕ → ℕ → List Token
 tokens_from text i = tokens (drop i text)
@@ -23,22 +24,17 @@ row_tokens text start = first_row (tokens_from text start)
 abbrev pub row_at : List ℕ → ℕ → Look → List Cell
 row_at text start before = cells_of_row before (row_tokens text start)
 
--- the cells of a run of plain codes
-unfoldable pub run_cell : Pen → ℕ → Cell
-run_cell pen c = cell_of (plain_token c) pen
+-- the position after the row end that follows it, if one does
+abbrev pub end_after : List ℕ → ℕ → Option ℕ
+end_after text start = cond (is_ended (tokens_from text start)) (Some (after_row_at text start)) None
 
-unfoldable pub run_cells : Pen → List ℕ → List Cell
-run_cells pen cs = map (run_cell pen) cs
-
--- a row drawn from a pen: the arrays at entry and at exit, and the result
-pub record Drawn
-    (text : List ℕ) (start : ℕ) (pen : Pen) (characters looks characters' looks' : List ℕ) (r : RowRead) : Type 0 where
-  pub held : CellsStored characters looks 0 (map character (cells_from pen (row_tokens text start))) (map packed_look (cells_from pen (row_tokens text start))) characters' looks'
+-- a row drawn from a pen: the array at entry and at exit, and the result. What has no place in the array is counted all the same.
+pub record Drawn (text : List ℕ) (start : ℕ) (pen : Pen) (cells cells' : List PackedCell) (r : RowRead) : Type 0 where
+  pub held : cells' ≡ sets cells 0 (packed_cells (cells_from pen (row_tokens text start)))
   pub count : r.cells ≡ length (cells_from pen (row_tokens text start))
-  pub ended : r.ended ≡ is_ended (tokens_from text start)
-  pub next : r.next ≡ after_row_at text start
-  pub after : r.look ≡ pack (pen_end pen (row_tokens text start)).look
+  pub after : r.after ≡ end_after text start
+  pub look : r.look ≡ pack (pen_end pen (row_tokens text start)).look
 
 -- from the pen that the row starts with, after a packed look
-abbrev pub Decoded : List ℕ → ℕ → ℕ → List ℕ → List ℕ → List ℕ → List ℕ → RowRead → Type 0
-Decoded text start before characters looks characters' looks' r = Drawn text start (row_start (row_tokens text start) (unpack before)) characters looks characters' looks' r
+abbrev pub Decoded : List ℕ → ℕ → ℕ → List PackedCell → List PackedCell → RowRead → Type 0
+Decoded text start before cells cells' r = Drawn text start (row_start (row_tokens text start) (unpack before)) cells cells' r

@@ -1,3 +1,4 @@
-pub mod Arrays
+pub mod Packed
 pub mod Fronts
+pub mod Drawing
 pub mod Decoded

@@ -1,170 +1,115 @@
-// What a token draws under a pen, whose look is kept packed.
+// A row that is drawn, token by token.
 
-ghost use Rattle.std.specs.Prelude.{◌≡◌, ◌<◌};
-ghost use Rattle.meaning.specs.Looks.{look_count, with_background, with_colour, start_look, pack, unpack};
+ghost use Rattle.std.specs.Prelude.{◌≡◌, ◌∷◌, [], ◌+◌, ◌<◌, ◌≤◌, ◌^◌, length, map};
+ghost use Rattle.charset.specs.Plain.{plain_token};
 ghost use Rattle.meaning.specs.Codes.{takes_cell};
-ghost use Rattle.meaning.specs.Cells.{cell_character, control_here, control_next, switched, look_here, look_next, hidden_next};
-ghost use Rattle.cells.specs.Arrays.{packed, hidden_look};
 ghost use Rattle.cells.specs.Fronts.{front_after};
+ghost use Rattle.cells.specs.Decoded.{row_tokens, end_after};
+ghost use Rattle.cells.specs.Drawing.{Puts, Draws, HidesFront};
 
-use crate::{BLANK, packed};
-use meaning::{Look, Token};
+use crate::PackedCell;
+use crate::pen::{BOX_END, BOX_START, PackedPen};
+use meaning::{Glyph, Token};
 
-const BOX_END: u8 = 10;
-
-const BOX_START: u8 = 11;
-
-fn with_background(pen: u16, background: u8) -> u16
-    ensures { result ≡ pack (with_background background (unpack pen)) }
-{
-    let mut look = Look::unpack(pen);
-    look.background = background;
-    look.pack()
+// The array, how many cells are drawn so far, how many of them are to be hidden in front, up to and with that of the first
+// box code, and the pen after them. `front` is no Option: without a box code the count is 0, and 0 cells are hidden.
+#[derive(Drop)]
+pub(crate) struct Drawing<'a> {
+    pub cells: &'a mut [PackedCell],
+    pub count: usize,
+    pub front: usize,
+    pub pen: PackedPen,
 }
 
-fn with_colour(pen: u16, colour: u8) -> u16
-    ensures { result ≡ pack (with_colour colour (unpack pen)) }
-{
-    let mut look = Look::unpack(pen);
-    look.colour = colour;
-    look.pack()
-}
-
-// 1Ch and 1Dh hold at their own cell.
-fn control_here(c: u8, pen: u16) -> u16
-    requires { pen < look_count }
-    ensures { result ≡ pack (control_here c (unpack pen)) }
-{
-    match c {
-        28 => with_background(pen, Look::BLACK),
-        29 => with_background(pen, Look::unpack(pen).colour),
-        _ => pen,
-    }
-}
-
-// A colour holds from the next cell on.
-fn control_next(c: u8, pen: u16) -> u16
-    requires { pen < look_count }
-    ensures { result ≡ pack (control_next c (control_here c (unpack pen))) }
-{
-    if c < 8 {
-        return with_colour(pen, c);
-    }
-    control_here(c, pen)
-}
-
-// Italics and underline hold from the next cell on.
-fn switched(c: u8, pen: u16) -> u16
-    ensures { result ≡ pack (switched c (unpack pen)) }
-{
-    let l = Look::unpack(pen);
-    let mut look = l;
-    look.italics = (c == 128) | (l.italics & (c != 129));
-    look.underline = (c == 130) | (l.underline & (c != 131));
-    look.pack()
-}
-
-pub(crate) fn takes_cell(token: Token) -> bool
+#[tactic(auto, unfolding(meaning::specs::Codes::takes_cell))]
+fn takes_cell(token: Token) -> bool
     ensures { result ≡ takes_cell token }
 {
+    !matches!(token, Token::Switch(_))
+}
+
+#[tactic(auto, unfolding(crate::specs::Fronts::front_after, meaning::specs::Codes::is_box_code, meaning::specs::Codes::is_control_of))]
+fn front_after(token: Token, front: usize, count: usize) -> usize
+    ensures { result ≡ front_after token front count }
+{
     match token {
-        Token::Character(_) => true,
-        Token::Control(_) => true,
-        Token::Switch(_) => false,
-        Token::RowEnd => true,
-        Token::Unlisted => true,
+        Token::Control(BOX_START | BOX_END) if front == 0 => count,
+        _ => front,
     }
 }
 
-// The character of a token's cell, packed.
-pub(crate) fn cell_character(token: Token) -> u32
-    ensures { result ≡ packed (cell_character token) }
-{
-    match token {
-        Token::Character(glyph) => packed(glyph),
-        Token::Control(_) => BLANK,
-        Token::Switch(_) => BLANK,
-        Token::RowEnd => BLANK,
-        Token::Unlisted => BLANK,
-    }
-}
-
-// The look of a token's cell.
-pub(crate) fn look_here(token: Token, pen: u16) -> u16
-    requires { pen < look_count }
-    ensures { result ≡ pack (look_here token (unpack pen)) }
-{
-    match token {
-        Token::Character(_) => pen,
-        Token::Control(c) => control_here(c, pen),
-        Token::Switch(_) => pen,
-        Token::RowEnd => pen,
-        Token::Unlisted => pen,
-    }
-}
-
-// The look after a token.
-pub(crate) fn look_next(token: Token, pen: u16) -> u16
-    requires { pen < look_count }
-    ensures { result ≡ pack (look_next token (unpack pen)) }
-{
-    match token {
-        Token::Character(_) => pen,
-        Token::Control(c) => control_next(c, pen),
-        Token::Switch(c) => switched(c, pen),
-        Token::RowEnd => pen,
-        Token::Unlisted => pen,
-    }
-}
-
-// The look of a hidden cell: white on black in the subtitle's height.
-pub(crate) fn hidden_look(pen: u16) -> u16
-    ensures { result ≡ hidden_look pen }
-{
-    let look = Look::unpack(pen);
-    let hidden = Look::white_on_black(look.double);
-    hidden.pack()
-}
-
-// Whether cells are hidden after a token.
-pub(crate) fn hidden_next(token: Token, hidden: bool) -> bool
-    ensures { result ≡ hidden_next token hidden }
-{
-    match token {
-        Token::Character(_) => hidden,
-        Token::Control(c) => (c == BOX_END) | ((c != BOX_START) & hidden),
-        Token::Switch(_) => hidden,
-        Token::RowEnd => hidden,
-        Token::Unlisted => hidden,
-    }
-}
-
-// How many cells stand up to and with that of the first box code, 0 while there is none: after a token, with which there are
-// n cells.
-pub(crate) fn front_after(token: Token, front: usize, n: usize) -> usize
-    ensures { result ≡ front_after token front n }
-{
-    match token {
-        Token::Character(_) => front,
-        Token::Control(c) => {
-            if ((c == BOX_START) | (c == BOX_END)) & (front == 0) {
-                n
-            } else {
-                front
-            }
+impl Drawing<'_> {
+    // One cell more, where the array has a place for it.
+    fn put(&mut self, cell: PackedCell)
+        requires { self.old.count + 1 < 2 ^ 64 }
+        ensures { Puts self.old (cell ∷ []) self.new }
+    {
+        // By the index, for a proof knows nothing of what is stored through `get_mut`.
+        if self.count < self.cells.len() {
+            self.cells[self.count] = cell;
         }
-        Token::Switch(_) => front,
-        Token::RowEnd => front,
-        Token::Unlisted => front,
+        self.count += 1;
     }
-}
 
-// The look at the start of a row, from the look before it.
-pub(crate) fn row_start(before: u16) -> u16
-    ensures { result ≡ pack (start_look (unpack before)) }
-{
-    let mut first = Look::unpack(before);
-    first.background = Look::BLACK;
-    first.colour = Look::WHITE;
-    first.pack()
+    // A token's cell, where it takes one, and the pen after it.
+    fn put_token(&mut self, token: Token)
+        requires { self.old.count + 1 < 2 ^ 64 }
+        ensures { Draws self.old (token ∷ []) self.new }
+    {
+        if takes_cell(token) {
+            self.put(self.pen.cell(token));
+        }
+        self.pen = self.pen.after(token);
+        self.front = front_after(token, self.front, self.count);
+    }
+
+    // The cells of a run of plain codes, which leave the pen as it is.
+    fn put_run(&mut self, codes: &[u8])
+        requires { self.old.count + length codes.now < 2 ^ 64 }
+        ensures { Draws self.old (map plain_token codes.now) self.new }
+    {
+        // By the index, for a proof knows nothing of what is stored through a `zip` with `iter_mut`.
+        let start = self.count;
+        let pen = self.pen;
+        let places = output::fitting(self.cells.len(), start, codes.len());
+        for (j, &c) in codes[..places].iter().enumerate() {
+            let character = Glyph {
+                point: u16::from(c),
+                mark: 0,
+            };
+            self.cells[start + j] = pen.cell(Token::Character(character));
+        }
+        self.count = start + codes.len();
+    }
+
+    // The row that starts at a position, and the position after its row end, if it has one. Most codes are plain, so the run of
+    // them after a token is stored at once. A `while`: one turn takes a token and a run, which no iterator over readings gives.
+    pub(crate) fn draw(&mut self, text: &[u8], start: usize) -> Option<usize>
+        requires { self.old.count ≤ start }
+        ensures drawn { Draws self.old (row_tokens text.now start) self.new }
+        ensures after { result ≡ end_after text.now start }
+    {
+        let mut i = start;
+        while i < text.len() {
+            let reading = charset::token_at(text, i);
+            if rows::is_row_end(reading.token) {
+                return Some(reading.next);
+            }
+            self.put_token(reading.token);
+            i = charset::plain_end(text, reading.next);
+            let run = &text[reading.next..i];
+            self.put_run(run);
+        }
+        None
+    }
+
+    // The cells in front are hidden, in the height of a look.
+    pub(crate) fn hide_front(&mut self, look: u16)
+        ensures { HidesFront self.old look self.new }
+    {
+        let places = self.cells.len().min(self.front);
+        let hidden = PackedCell::hidden(look);
+        // With the 0, for a proof knows nothing of what is stored through `..places` of a field.
+        self.cells[0..places].fill(hidden);
+    }
 }

@@ -23,7 +23,7 @@ use Rattle.charset.specs.declared.Reading.{Reading}
 use Rattle.charset.specs.Reading.{is_pair_at, reading_at, token_at, next_at, after_row_at}
 use Rattle.charset.specs.Plain.{is_plain, plain_token, plain_end}
 use Rattle.charset.proofs.Codes.{plain-range, plain-token}
-use Rattle.charset.proofs.Positions.{by_reading, next-on, row_step}
+use Rattle.charset.proofs.Positions.{by_reading, next-on, row_step, FirstReading}
 
 -- a code that is no accent, or has none after it
 first-single : (c : ℕ) (cs : List ℕ) → is_accent c ≡ false → tokens (c ∷ cs) ≡ code_token c ∷ tokens cs
@@ -105,6 +105,10 @@ module _ (s : List ℕ) (i : ℕ) (h : i < length s) where
 -- The law for loops over a text, of the result r of a call of `token_at`.
 pub read-on : {s : List ℕ} {i : ℕ} {r : Reading} → r ≡ reading_at s i → i < length s → ReadOn s i r
 read-on {s} {i} e h = rw e (read_at s i h)
+
+-- and of the first of the readings from a position on
+pub first-on : {s : List ℕ} {i : ℕ} {x : ℕ × Reading} {xs : List (ℕ × Reading)} → FirstReading s i x xs → ReadOn s i x.1
+first-on f = read-on f.read f.within
 
 -- a low code is no accent
 low-single : (c : ℕ) → c < 160 → is_accent c ≡ false

@@ -1,2 +1,4 @@
 pub mod Plain
+pub mod Points
 pub mod Reading
+pub mod Readings

@@ -1,6 +1,6 @@
 -- The reading of a text at a position: the token there and the position after it, and the positions after a row and a row end.
 -- Assumes nothing.
-use Rattle.std.specs.Prelude.{ℕ, zero, suc, ◌+◌, ◌-◌, Bool, true, false, cond, ◌&&◌, List, ltb, length, get_or}
+use Rattle.std.specs.Prelude.{ℕ, zero, suc, ◌+◌, ◌-◌, Bool, true, false, cond, ◌&&◌, List, [], ◌∷◌, ltb, length, get_or, Option, Some, None}
 use Rattle.meaning.specs.declared.Token.{Token}
 use Rattle.meaning.specs.declared.Token.TheVariants.{Unlisted}
 use Rattle.meaning.specs.Codes.{is_accent, code_token, pair_token, is_row_end}
@@ -9,6 +9,10 @@ use Rattle.charset.specs.declared.Reading.{Reading}
 -- an accent with a code after it
 unfoldable pub is_pair_at : List ℕ → ℕ → Bool
 is_pair_at s i = is_accent (get_or s i 0) && ltb (i + 1) (length s)
+
+-- the token of a code with the one at a position after it, where the code is an accent and the text has the position
+unfoldable pub pair_at : List ℕ → ℕ → ℕ → Option Token
+pair_at s c after = elim (is_accent c && ltb after (length s)) [ true ↦ Some (pair_token c (get_or s after 0)) | false ↦ None ]
 
 -- past the end nothing is read, and the position stays
 unfoldable pub reading_at : List ℕ → ℕ → Reading
@@ -24,6 +28,14 @@ token_at s i = (reading_at s i).token
 
 abbrev pub next_at : List ℕ → ℕ → ℕ
 next_at s i = (reading_at s i).next
+
+-- the readings from a position on, each with its position, in at most n turns
+unfoldable pub readings_in : ℕ → List ℕ → ℕ → List (ℕ × Reading)
+readings_in zero s i = []
+readings_in (suc n) s i = elim (ltb i (length s)) [ true ↦ (i, reading_at s i) ∷ readings_in n s (next_at s i) | false ↦ [] ]
+
+unfoldable pub readings_from : List ℕ → ℕ → List (ℕ × Reading)
+readings_from s i = readings_in (length s - i) s i
 
 -- the position after a row end that stands at i; where none does, i
 unfoldable pub after_end_at : List ℕ → ℕ → ℕ

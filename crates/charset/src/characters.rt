@@ -1,113 +1,93 @@
-// The code points of single codes, and the characters of accents with the code after them; a code point of 0 for none.
-ghost use Rattle.std.specs.Prelude.{◌≡◌, ◌≤◌};
+// The code points of single codes, and the characters of accents with the code after them.
+ghost use Rattle.std.specs.Prelude.{◌≡◌, ◌≤◌, ◌<◌, suc, IfSome};
 ghost use Rattle.meaning.specs.Glyphs.{single};
-ghost use Rattle.meaning.specs.Characters.{latin, accent, letter, composed, mark_of, base, accented};
+ghost use Rattle.meaning.specs.Characters.{latin, accent, letter, composed, base, accented};
+ghost use Rattle.charset.specs.Points.{point_of, index_of, glyph_of};
 
 use crate::{composed_table, latin_table};
 use meaning::Glyph;
 
-// The mark of each accent, by its number from 1.
+// The mark of each accent, by its number from 0.
 const MARKS: [u16; 13] = [
     768, 769, 770, 771, 772, 774, 775, 776, 778, 807, 779, 808, 780,
 ];
 
 // A character of one code point.
+#[tactic(auto, unfolding(meaning::specs::Glyphs::single))]
 pub(crate) fn single(point: u16) -> Glyph
     ensures { result ≡ single point }
 {
     Glyph { point, mark: 0 }
 }
 
+// The code point of a table's entry; the document's tables have 0 for none.
+fn point_of(entry: u16) -> Option<u16>
+    ensures { result ≡ point_of entry }
+{
+    if entry == 0 { None } else { Some(entry) }
+}
+
 // The code point of a code from A0h on; the lower codes need no table.
-pub(crate) fn upper(c: u8) -> u16
+pub(crate) fn upper(c: u8) -> Option<u16>
     requires { 160 ≤ c }
-    ensures { result ≡ latin c }
+    ensures { result ≡ point_of (latin c) }
 {
-    latin_table::UPPER[(c - 160) as usize]
+    point_of(latin_table::UPPER[(c - 160) as usize])
 }
 
-// The number of an accent, 1 to 13, which skips C9h and CCh; 0 for any other code. No table: it would be laid out for each
-// accent that is read.
-pub(crate) fn accent(c: u8) -> u8
-    ensures { result ≡ accent c }
+// The number of an accent, 0 to 12, which skips C9h and CCh. No table: it would be laid out for each accent that is read.
+pub(crate) fn accent(c: u8) -> Option<usize>
+    ensures number { result ≡ index_of (accent c) }
+    ensures small { IfSome result (λ a. a < 13) }
 {
-    if (193 <= c) & (c <= 200) {
-        return c - 192;
+    match c {
+        193..=200 => Some((c - 193) as usize),
+        202..=203 => Some((c - 194) as usize),
+        205..=207 => Some((c - 195) as usize),
+        _ => None,
     }
-    if (202 <= c) & (c <= 203) {
-        return c - 193;
-    }
-    if (205 <= c) & (c <= 207) {
-        return c - 194;
-    }
-    0
 }
 
-// The number of a letter, 1 to 52 for A to Z and a to z; 0 for any other code.
-fn letter(c: u8) -> u8
-    ensures number { result ≡ letter c }
-    ensures small { result ≤ 52 }
+// The number of a letter, 0 to 51 for A to Z and a to z.
+fn letter(c: u8) -> Option<usize>
+    ensures number { result ≡ index_of (letter c) }
+    ensures small { IfSome result (λ l. l < 52) }
 {
-    if (65 <= c) & (c <= 90) {
-        return c - 64;
+    match c {
+        b'A'..=b'Z' => Some((c - b'A') as usize),
+        b'a'..=b'z' => Some((c - b'a') as usize + 26),
+        _ => None,
     }
-    if (97 <= c) & (c <= 122) {
-        return c - 70;
-    }
-    0
 }
 
-// The single code point of an accent and a letter, each by its number.
-fn composed(a: u8, l: u8) -> u16
-    requires { l ≤ 52 }
-    ensures { result ≡ composed a l }
+// The single code point of an accent, by its number, and a letter.
+fn composed(a: usize, c: u8) -> Option<u16>
+    ensures { result ≡ point_of (composed (suc a) (letter c)) }
 {
-    if a == 0 {
-        return 0;
-    }
-    if l == 0 {
-        return 0;
-    }
-    let row = a as usize - 1;
-    let column = l as usize - 1;
-    composed_table::entry(row, column)
-}
-
-// The mark of an accent, by its number; 0 for none.
-fn mark_of(a: u8) -> u16
-    ensures { result ≡ mark_of a }
-{
-    if a == 0 {
-        return 0;
-    }
-    let k = (a - 1) as usize;
-    if k < 13 { MARKS[k] } else { 0 }
+    let l = letter(c)?;
+    point_of(composed_table::entry(a, l))
 }
 
 // What a mark stands on where there is no composed letter: the letter, U+00A0 for 20h.
-fn base(c: u8) -> u16
-    ensures { result ≡ base c }
+fn base(c: u8) -> Option<u16>
+    ensures { result ≡ point_of (base c) }
 {
     if c == 32 {
-        return 160;
+        return Some(160);
     }
-    if letter(c) == 0 {
-        return 0;
-    }
-    c as u16
+    letter(c)?;
+    Some(c as u16)
 }
 
-// The character of an accent with the code after it; its code point is 0 for none.
-pub(crate) fn pair(a: u8, c: u8) -> Glyph
-    ensures { result ≡ accented (accent a) c }
+// The character of an accent, by its number, with the code after it.
+pub(crate) fn pair(a: usize, c: u8) -> Option<Glyph>
+    requires { a < 13 }
+    ensures { result ≡ glyph_of (accented (suc a) c) }
 {
-    let number = accent(a);
-    let point = composed(number, letter(c));
-    if point == 0 {
-        return Glyph {
-            point: base(c),
-            mark: mark_of(number),
-        };
+    if let Some(point) = composed(a, c) {
+        return Some(single(point));
     }
-    single(point)
+    let point = base(c)?;
+    let mark = MARKS[a];
+    Some(Glyph { point, mark })
 }

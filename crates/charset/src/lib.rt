@@ -2,10 +2,13 @@
 
 #![tactic(auto)]
 
-ghost use Rattle.std.specs.Prelude.{◌≡◌, ◌<◌};
-ghost use Rattle.meaning.specs.Codes.{is_accent, is_control, is_switch, character_of, code_token, pair_token};
+ghost use Rattle.std.specs.Prelude.{◌≡◌, ◌<◌, suc};
+ghost use Rattle.std.specs.Iterator.{YieldsFirst, item_count};
+ghost use Rattle.meaning.specs.Characters.{accented};
+ghost use Rattle.meaning.specs.Codes.{is_control, is_switch, character_of, code_token};
 ghost use Rattle.charset.specs.Plain.{is_plain, plain_end};
-ghost use Rattle.charset.specs.Reading.{reading_at};
+ghost use Rattle.charset.specs.Reading.{pair_at, reading_at, readings_from};
+ghost use Rattle.charset.specs.Readings.{readings_left};
 
 use meaning::{Glyph, Token};
 
@@ -20,19 +23,15 @@ pub struct Reading {
     pub next: usize,
 }
 
-fn is_accent(c: u8) -> bool
-    ensures { result ≡ is_accent c }
-{
-    characters::accent(c) != 0
-}
-
-// No branch: each test is made.
+// No branch: each test is made. With `matches!` the verdict over a text takes 8 % more instructions.
+#[tactic(auto, unfolding(meaning::specs::Codes::is_control))]
 fn is_control(c: u8) -> bool
     ensures { result ≡ is_control c }
 {
     (c < 8) | (c == 10) | (c == 11) | (c == 13) | (c == 28) | (c == 29)
 }
 
+#[tactic(auto, unfolding(meaning::specs::Codes::is_switch))]
 fn is_switch(c: u8) -> bool
     ensures { result ≡ is_switch c }
 {
@@ -40,20 +39,11 @@ fn is_switch(c: u8) -> bool
 }
 
 // A code that stands for the character of the same number.
+#[tactic(auto, unfolding(crate::specs::Plain::is_plain))]
 fn is_plain(c: u8) -> bool
     ensures { result ≡ is_plain c }
 {
     (32 <= c) & (c <= 126) & (c != 36)
-}
-
-fn character_of(glyph: Glyph) -> Token
-    ensures { result ≡ character_of glyph }
-{
-    if glyph.point == 0 {
-        Token::Unlisted
-    } else {
-        Token::Character(glyph)
-    }
 }
 
 // A code below A0h: no table is read for it.
@@ -83,13 +73,32 @@ fn code_token(c: u8) -> Token
     if c < 160 {
         return low_token(c);
     }
-    character_of(characters::single(characters::upper(c)))
+    match characters::upper(c) {
+        Some(point) => Token::Character(characters::single(point)),
+        None => Token::Unlisted,
+    }
 }
 
-fn pair_token(a: u8, c: u8) -> Token
-    ensures { result ≡ pair_token a c }
+// An accent, by its number, and the code after it.
+fn pair_token(a: usize, c: u8) -> Token
+    requires { a < 13 }
+    ensures { result ≡ character_of (accented (suc a) c) }
 {
-    character_of(characters::pair(a, c))
+    match characters::pair(a, c) {
+        Some(glyph) => Token::Character(glyph),
+        None => Token::Unlisted,
+    }
+}
+
+// The token of a code with the one at a position after it, where the code is an accent and the text has the position.
+fn pair_at(text: &[u8], c: u8, after: usize) -> Option<Token>
+    ensures { result ≡ pair_at text.now c after }
+{
+    let a = characters::accent(c)?;
+    if after < text.len() {
+        return Some(pair_token(a, text[after]));
+    }
+    None
 }
 
 // An accent is read with the code after it, where there is one.
@@ -104,14 +113,12 @@ pub fn reading_at(text: &[u8], i: usize) -> Reading
     }
     let c = text[i];
     let after = i + 1;
-    if is_accent(c) & (after < text.len()) {
-        let token = pair_token(c, text[after]);
-        let next = i + 2;
-        return Reading { token, next };
-    }
-    Reading {
-        token: code_token(c),
-        next: after,
+    match pair_at(text, c, after) {
+        Some(token) => Reading { token, next: i + 2 },
+        None => Reading {
+            token: code_token(c),
+            next: after,
+        },
     }
 }
 
@@ -132,16 +139,50 @@ pub fn token_at(text: &[u8], i: usize) -> Reading
     reading_at(text, i)
 }
 
+// The readings of a text from a position on, each with its position.
+#[derive(Drop)]
+pub struct Readings<'a> {
+    text: &'a [u8],
+    at: usize,
+}
+
+impl<'a> Readings<'a> {
+    pub fn new(text: &'a [u8], start: usize) -> Readings<'a>
+        ensures { readings_left result ≡ readings_from text.now start }
+    {
+        Readings { text, at: start }
+    }
+}
+
+impl<'a> Iterator for Readings<'a> {
+    type Item = (usize, Reading);
+
+    ghost next_gives = { YieldsFirst readings_left };
+
+    ghost remaining = { item_count readings_left };
+
+    fn next(&mut self) -> Option<(usize, Reading)> {
+        let at = self.at;
+        if self.text.len() <= at {
+            return None;
+        }
+        let read = reading_at(self.text, at);
+        self.at = read.next;
+        Some((at, read))
+    }
+}
+
 // Where the run of plain codes from a position on ends.
 pub fn plain_end(text: &[u8], start: usize) -> usize
     ensures { result ≡ plain_end text.now start }
 {
-    let mut i = start;
-    while i < text.len() {
-        if !is_plain(text[i]) {
-            return i;
-        }
-        i += 1;
+    if text.len() <= start {
+        return start;
     }
-    i
+    let rest = &text[start..];
+    start
+        + rest
+            .iter()
+            .position(|c| !is_plain(*c))
+            .unwrap_or(rest.len())
 }

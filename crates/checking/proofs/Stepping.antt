@@ -6,13 +6,14 @@ use mathlib.Core.Path.{◌≡◌, refl, sym, ap, ◌∙◌}
 use mathlib.Core.Bool.{Bool, true, false, not, ◌&&◌}
 use mathlib.Core.List.{List, [], ◌∷◌}
 use mathlib.Core.Option.{some, some-injective}
+use Rattle.std.specs.Prelude.{Result, Ok, Err, None}
 use lib.ListN.{length, drop, length-drop}
 use lib.Seq.{take_all}
 use Rattle.meaning.specs.declared.Refusal.{Refusal}
 use Rattle.meaning.specs.declared.Counts.{Counts}
 use Rattle.meaning.specs.declared.Header.{Header}
 use Rattle.meaning.specs.declared.Format.{Format}
-use Rattle.meaning.specs.Refusals.{no_refusal, is_good}
+use Rattle.meaning.specs.Refusals.{is_good, kept, verdict}
 use Rattle.meaning.specs.Lists.{field}
 use Rattle.meaning.specs.Blocks.{gsi_size, blocks, header_of, block_text}
 use Rattle.meaning.specs.Sets.{Event, no_blocks, is_user, advance}
@@ -20,34 +21,28 @@ use Rattle.meaning.specs.Sets.Event.{closed}
 use Rattle.meaning.specs.Walk.{no_counts, total, counted_by, counted, is_open, begun, set_rule, Outcome, finish, judge, step, steps, walk}
 use Rattle.meaning.specs.Walk.Outcome.{refused, accepted}
 use Rattle.meaning.proofs.Logic.{by_test, by_cond, none_not_some}
-use Rattle.meaning.proofs.RefusalLaws.{good-number, bad-number}
+use Rattle.meaning.proofs.RefusalLaws.{good-number}
 use Rattle.laws.proofs.Steps.{blocks-length}
 use Rattle.laws.proofs.Walk.{broken-bad, WithinIf, step-within, start-within}
 use Rattle.output.specs.Output.{past, stored}
 use Rattle.output.proofs.Laws.{length-stored}
-use Rattle.text.specs.declared.Tally.{Tally}
 use Rattle.sets.specs.declared.Set.{Set}
-use Rattle.sets.specs.declared.Current.TheVariants.{Between}
 use Rattle.sets.specs.declared.Sets.{Sets}
 use Rattle.sets.specs.declared.Step.{Step}
-use Rattle.sets.specs.declared.Step.TheVariants.{NoRoom, Broken, Pending, Closed}
+use Rattle.sets.specs.declared.Step.TheVariants.{NoRoom, Pending, Closed}
 use Rattle.sets.specs.Assembling.{set_of, current_of, assembly_of, event_of, text_end, has_room, room_for, step_in, text_after}
 use Rattle.sets.proofs.Laws.{step-event}
 use Rattle.sets.proofs.Rooms.{room-left}
-use Rattle.closed.specs.Body.{Body, empty_body, lay_set}
-use Rattle.checking.specs.declared.Checked.{Checked}
+use Rattle.closed.specs.Body.{Body, lay_set}
 use Rattle.checking.specs.declared.blocks.Pass.{Pass}
-use Rattle.checking.specs.Passing.{Passing, outcome_of, passing_outcome, more, counts_after, refused_pass, going_pass, stepped, block_taken, pass_all, checked_of}
+use Rattle.checking.specs.Passing.{Passing, outcome_of, passing_outcome, more, counts_after, going_pass, pass_after, stepped, block_taken, pass_all, checked_of}
 
-module _ (w : Pass) (text out : List ℕ) (marks : List Bool) where
-  pub outcome-good :
-      is_good w.refusal ≡ true
-      → outcome_of w text out marks
-      ≡ accepted (record { assembly = assembly_of w.sets text; counts = w.counts; gathered = record { out = out; marks = marks; tally = w.tally } })
+module _ (w : Pass) (text : List ℕ) (body : Body) where
+  pub outcome-good : is_good w.refusal ≡ true → outcome_of w text body ≡ accepted (record { assembly = assembly_of w.sets text; counts = w.counts; gathered = body })
   unfolding outcome_of
   outcome-good e = rw (e, outcome_of)
 
-  pub outcome-bad : is_good w.refusal ≡ false → outcome_of w text out marks ≡ refused w.refusal
+  pub outcome-bad : is_good w.refusal ≡ false → outcome_of w text body ≡ refused w.refusal
   unfolding outcome_of
   outcome-bad e = rw (e, outcome_of)
 
@@ -78,72 +73,72 @@ module _ (f : Format) (place : ℕ) (b : List ℕ) (p : Passing) (ready : CanTak
 
   judged :
       {e : Event} → advance f place b (assembly_of p.pass.sets p.text) ≡ e
-      → judge f (set_rule f) (lay_set f) (counts_after b p.pass p.text) (record { out = p.out; marks = p.marks; tally = p.pass.tally }) e
+      → judge f (set_rule f) (lay_set f) (counts_after b p.pass p.text) p.body e
       ≡ step f (set_rule f) (lay_set f) place (passing_outcome p) b
   unfolding step
   judged e =
-      rw (sym e, outcome-good p.pass p.text p.out p.marks ready.0, counts-right (is_open (assembly_of p.pass.sets p.text)) (header_of b) p.pass.counts ready.2)
+      rw (sym e, outcome-good p.pass p.text p.body ready.0, counts-right (is_open (assembly_of p.pass.sets p.text)) (header_of b) p.pass.counts ready.2)
 
   on-closed :
       (set : Set) (s : Sets) → advance f place b (assembly_of p.pass.sets p.text) ≡ closed (set_of set after) (assembly_of s after)
-      → Right (stepped f (counts_after b p.pass p.text) after p (Closed set s))
+      → Right (stepped f (counts_after b p.pass p.text) after p (Ok (Closed set s)))
   unfolding stepped judge
   on-closed set s e =
       by_test (is_good (set_rule f (set_of set after)))
-      (λ g. rw (g, stepped) (outcome-good _ after _ _ ready.0 ∙ (rw (g, judge) at (judged e))))
-      (λ g. rw (g, stepped) (outcome-bad _ after _ _ g ∙ (rw (g, judge) at (judged e))))
+      (λ g. rw (g, stepped) (outcome-good _ after _ ready.0 ∙ (rw (g, judge) at (judged e))))
+      (λ g. rw (g, stepped) (outcome-bad _ after _ g ∙ (rw (g, judge) at (judged e))))
 
   by_step :
-      (s : Step) → some (advance f place b (assembly_of p.pass.sets p.text)) ≡ event_of s after
+      (s : Result Step Refusal) → some (advance f place b (assembly_of p.pass.sets p.text)) ≡ event_of s after
       → Right (stepped f (counts_after b p.pass p.text) after p s)
   unfolding event_of stepped judge
-  by_step NoRoom e = absurd (none_not_some (sym e))
-  by_step (Broken q) e =
+  by_step (Err q) e =
       let z = some-injective _ _ e in
-      outcome-bad _ after _ _ (broken-bad f place b _ z) ∙ judged z
-  by_step (Pending s) e = outcome-good _ after _ _ ready.0 ∙ judged (some-injective _ _ e)
-  by_step (Closed set s) e = on-closed set s (some-injective _ _ e)
+      outcome-bad _ after _ (broken-bad f place b _ z) ∙ judged z
+  by_step (Ok NoRoom) e = absurd (none_not_some (sym e))
+  by_step (Ok (Pending s)) e = outcome-good _ after _ ready.0 ∙ judged (some-injective _ _ e)
+  by_step (Ok (Closed set s)) e = on-closed set s (some-injective _ _ e)
 
   block-step : Right (block_taken f place b p)
   unfolding block_taken
   block-step = by_step _ event
 
 -- what comes back after a block, by the step that it made
-module _ (f : Format) (place : ℕ) (b : List ℕ) (p : Passing) {counts : Counts} {text : List ℕ} {s : Step} (k : counts ≡ counts_after b p.pass p.text) (t : (s ≡ step_in f place b p.pass.sets p.text) × (text ≡ text_after b p.pass.sets p.text)) where
-  by_taken : {e : Step} → s ≡ e → stepped f counts text p e ≡ block_taken f place b p
+module _ (f : Format) (place : ℕ) (b : List ℕ) (p : Passing) {counts : Counts} {text : List ℕ} {s : Result Step Refusal} (k : counts ≡ counts_after b p.pass p.text) (t : (s ≡ step_in f place b p.pass.sets p.text) × (text ≡ text_after b p.pass.sets p.text)) where
+  -- what is promised of the result, with the text buffer and what is laid after it
+  abbrev Taken : Result Pass Refusal → Body → Type 0
+  Taken r body = record { pass = pass_after p.pass r; text = text; body = body } ≡ block_taken f place b p
+
+  by_taken : {e : Result Step Refusal} → s ≡ e → stepped f counts text p e ≡ block_taken f place b p
   unfolding block_taken
   by_taken e = rw (sym e, k, t.0, t.1)
 
-  pub taken-full : s ≡ NoRoom → record { pass = p.pass; text = text; out = p.out; marks = p.marks } ≡ block_taken f place b p
-  unfolding stepped
-  taken-full e = by_taken e
-
-  pub taken-broken : {q : Refusal} → s ≡ Broken q → record { pass = refused_pass p.pass q; text = text; out = p.out; marks = p.marks } ≡ block_taken f place b p
-  unfolding stepped
+  pub taken-broken : {q : Refusal} → s ≡ Err q → Taken (Err q) p.body
+  unfolding stepped pass_after
   taken-broken e = by_taken e
 
-  pub taken-pending :
-      {a : Sets} → s ≡ Pending a → record { pass = going_pass p.pass a counts p.pass.tally; text = text; out = p.out; marks = p.marks } ≡ block_taken f place b p
-  unfolding stepped
+  pub taken-full : s ≡ Ok NoRoom → Taken (Ok p.pass) p.body
+  unfolding stepped pass_after
+  taken-full e = by_taken e
+
+  pub taken-pending : {a : Sets} → s ≡ Ok (Pending a) → Taken (Ok (going_pass p.pass a counts)) p.body
+  unfolding stepped pass_after
   taken-pending e = by_taken e
 
-  module _ {set : Set} {a : Sets} (e : s ≡ Closed set a) where
-    pub taken-bad :
-        {q : Refusal} → q ≡ set_rule f (set_of set text) → (q.number ≡ 0 → ⊥)
-        → record { pass = refused_pass p.pass q; text = text; out = p.out; marks = p.marks } ≡ block_taken f place b p
-    unfolding stepped
-    taken-bad {q} g z =
-        let y : is_good (set_rule f (set_of set text)) ≡ false = rw (sym g) (bad-number q z) in
-        rw g (rw (y, stepped) at (by_taken e))
+  module _ {set : Set} {a : Sets} (e : s ≡ Ok (Closed set a)) {v : Result Unit Refusal} (d : v ≡ verdict (set_rule f (set_of set text))) where
+    pub taken-bad : {q : Refusal} → v ≡ Err q → Taken (Err q) p.body
+    unfolding stepped pass_after verdict
+    taken-bad z =
+        by_test (is_good (set_rule f (set_of set text)))
+        (λ g. let x = rw (g, verdict) at d in cc)
+        (λ g. let x = rw (g, verdict) at d in let y = rw (g, stepped) at (by_taken e) in cc)
 
-    pub taken-good :
-        is_good (set_rule f (set_of set text)) ≡ true → {out : List ℕ} {marks : List Bool} {u : Tally}
-        → record { out = out; marks = marks; tally = u } ≡ lay_set f (set_of set text) (record { out = p.out; marks = p.marks; tally = p.pass.tally })
-        → record { pass = going_pass p.pass a counts u; text = text; out = out; marks = marks } ≡ block_taken f place b p
-    unfolding stepped
-    taken-good y l =
-        ap (λ (q : Body). record { pass = going_pass p.pass a counts q.tally; text = text; out = q.out; marks = q.marks }) l
-        ∙ (rw (y, stepped) at (by_taken e))
+    pub taken-good : v ≡ Ok tt → Taken (Ok (going_pass p.pass a counts)) (lay_set f (set_of set text) p.body)
+    unfolding stepped pass_after verdict
+    taken-good z =
+        by_test (is_good (set_rule f (set_of set text)))
+        (λ g. rw (g, stepped) at (by_taken e))
+        (λ g. let x = rw (g, verdict) at d in cc)
 
 -- the text buffer keeps its length
 text-length : (b : List ℕ) (s : Sets) (text : List ℕ) → length (text_after b s text) ≡ length text
@@ -152,12 +147,12 @@ text-length b s text =
     by_cond (λ (t : List ℕ). length t ≡ length text) (has_room b s text && not (is_user (header_of b))) (stored text (text_end s.current) (block_text b)) text
     (length-stored text (text_end s.current) (block_text b)) refl
 
-stepped-text : (f : Format) (c : Counts) (text : List ℕ) (p : Passing) (s : Step) → (stepped f c text p s).text ≡ text
+stepped-text : (f : Format) (c : Counts) (text : List ℕ) (p : Passing) (s : Result Step Refusal) → (stepped f c text p s).text ≡ text
 unfolding stepped
-stepped-text f c text p NoRoom = refl
-stepped-text f c text p (Broken r) = refl
-stepped-text f c text p (Pending s) = refl
-stepped-text f c text p (Closed set s) = by_test (is_good (set_rule f (set_of set text))) (λ g. rw (g, stepped)) (λ g. rw (g, stepped))
+stepped-text f c text p (Err r) = refl
+stepped-text f c text p (Ok NoRoom) = refl
+stepped-text f c text p (Ok (Pending s)) = refl
+stepped-text f c text p (Ok (Closed set s)) = by_test (is_good (set_rule f (set_of set text))) (λ g. rw (g, stepped)) (λ g. rw (g, stepped))
 
 taken-length : (f : Format) (place : ℕ) (b : List ℕ) (p : Passing) → length (block_taken f place b p).text ≡ length p.text
 unfolding block_taken
@@ -181,14 +176,14 @@ module _ (f : Format) where
       by_test (is_good p.pass.refusal)
       (λ e.
       let z : past place 1 ≡ suc place = omega arith in
-      let i = rw (outcome-good p.pass p.text p.out p.marks e) at h in
+      let i = rw (outcome-good p.pass p.text p.body e) at h in
       let room : room_for (place + 1) ≤ length p.text = omega arith in
       let s = block-step f place b p (e, room-left place p.text room b p.pass.sets i.fits, omega (arith, i.counts)) in
       rw (e, pass_all, z)
       (next (block_taken f place b p) (omega arith) (omega (arith, taken-length f place b p)) (rw s (step-within f (set_rule f) (lay_set f) place _ b tt h))
       ∙ ap (λ (o : Outcome Body). steps f (set_rule f) (lay_set f) (suc place) o bs) s))
       (λ e.
-      let z = outcome-bad p.pass p.text p.out p.marks e in
+      let z = outcome-bad p.pass p.text p.body e in
       rw (e, pass_all) (z ∙ rw z (sym (steps_stay f place p.pass.refusal (b ∷ bs)))))
 
   pub passes : (bs : List (List ℕ)) (place : ℕ) (p : Passing) → Passes bs place p
@@ -197,47 +192,47 @@ module _ (f : Format) where
   passes (b ∷ bs) place p l r h = passes-more b bs place p (λ q. passes bs (suc place) q) l r h
 
 -- what is told of a pass after the last of n blocks
-module _ (n : ℕ) (w : Pass) (text out : List ℕ) (marks : List Bool) where
-  pub ended-bad : is_good w.refusal ≡ false → refused w.refusal ≡ finish n (outcome_of w text out marks)
-  unfolding finish
-  ended-bad e = rw (outcome-bad w text out marks e)
+module _ (n : ℕ) (w : Pass) (text : List ℕ) (body : Body) where
+  pub ended-bad : is_good w.refusal ≡ false → Err w.refusal ≡ checked_of (finish n (outcome_of w text body))
+  unfolding finish checked_of
+  ended-bad e = rw (outcome-bad w text body e)
 
-  module _ (e : is_good w.refusal ≡ true) where
-    pub ended_open :
-        is_open (assembly_of w.sets text) ≡ true → refused (record { number = 7; place = n; offset = 0 }) ≡ finish n (outcome_of w text out marks)
-    unfolding finish
-    ended_open o = rw (outcome-good w text out marks e, o, finish)
+  module _ (e : is_good w.refusal ≡ true) {b : Bool} (o : b ≡ is_open (assembly_of w.sets text)) {v : Result Unit Refusal} (k : v ≡ kept (not b) 7 n 0) where
+    pub ended_open : {q : Refusal} → v ≡ Err q → Err q ≡ checked_of (finish n (outcome_of w text body))
+    unfolding finish checked_of kept
+    ended_open z =
+        by_test (is_open (assembly_of w.sets text))
+        (λ g. let x : v ≡ Err (record { number = 7; place = n; offset = 0 }) = rw (o, g) at k in rw (outcome-good w text body e, g, finish) cc)
+        (λ g. let x : v ≡ Ok tt = rw (o, g) at k in cc)
 
-    pub ended_shut :
-        is_open (assembly_of w.sets text) ≡ false
-        → record { refusal = no_refusal; counts = w.counts; tally = w.tally; marks = record { on = marks } } ≡ checked_of (finish n (outcome_of w text out marks))
-    unfolding finish checked_of
-    ended_shut o = rw (outcome-good w text out marks e, o, finish)
+    pub ended_shut : v ≡ Ok tt → Ok (record { counts = w.counts; tally = body.tally; marks = record { on = body.marks } }) ≡ checked_of (finish n (outcome_of w text body))
+    unfolding finish checked_of kept
+    ended_shut z =
+        by_test (is_open (assembly_of w.sets text))
+        (λ g. let x : v ≡ Err (record { number = 7; place = n; offset = 0 }) = rw (o, g) at k in cc)
+        (λ g. rw (outcome-good w text body e, g, finish))
 
--- pass one over a file's blocks tells what the walk over them tells
-module _ (f : Format) (file : List ℕ) (n : ℕ) (text : List ℕ) {bytes : List ℕ} (m : n < 2 ^ 64) (room : room_for n ≤ length text) (d : bytes ≡ field gsi_size (length file) file) where
+-- pass one over a file's blocks is the walk over them
+module _ (f : Format) (file : List ℕ) (n : ℕ) (text : List ℕ) (body : Body) {bytes : List ℕ} (m : n < 2 ^ 64) (room : room_for n ≤ length text) (d : bytes ≡ field gsi_size (length file) file) where
   abbrev first : Passing
   first =
       record {
-        pass = record { refusal = record { number = 0; place = 0; offset = 0 }; sets = record { least = 0; current = Between }; counts = record { subtitles = 0; comments = 0; continuations = 0; users = 0 }; tally = empty_body.tally };
+        pass = record { refusal = record { number = 0; place = 0; offset = 0 }; sets = record { least = 0; current = None }; counts = record { subtitles = 0; comments = 0; continuations = 0; users = 0 } };
         text = text;
-        out = [];
-        marks = empty_body.marks;
+        body = body;
       }
 
-  first-begun : passing_outcome first ≡ accepted (begun empty_body)
+  first-begun : passing_outcome first ≡ accepted (begun body)
   unfolding begun no_blocks no_counts assembly_of current_of
-  first-begun = outcome-good first.pass text [] empty_body.marks (good-number _ refl)
+  first-begun = outcome-good first.pass text body (good-number _ refl)
 
   all_blocks : bytes ≡ drop gsi_size file
   unfolding field
   all_blocks = d ∙ take_all (length file) (drop gsi_size file) (omega (arith, length-drop gsi_size file))
 
-  pub walk-passed :
-      {q : Passing} {r : Checked} → q ≡ pass_all f 0 first (blocks n bytes) → r ≡ checked_of (finish n (passing_outcome q))
-      → r ≡ checked_of (finish n (walk f (set_rule f) (lay_set f) empty_body file n))
+  pub walk-passed : {q : Passing} → q ≡ pass_all f 0 first (blocks n bytes) → passing_outcome q ≡ walk f (set_rule f) (lay_set f) body file n
   unfolding walk
-  walk-passed e g =
+  walk-passed e =
       let l : 0 + length (blocks n bytes) ≡ n = omega (arith, blocks-length n bytes) in
-      let p = passes f (blocks n bytes) 0 first (omega arith) (rw l room) (rw first-begun (start-within f (set_rule f) (lay_set f) empty_body)) in
-      g ∙ ap (λ (o : Outcome Body). checked_of (finish n o)) (ap passing_outcome e ∙ p ∙ rw (first-begun, all_blocks))
+      let p = passes f (blocks n bytes) 0 first (omega arith) (rw l room) (rw first-begun (start-within f (set_rule f) (lay_set f) body)) in
+      ap passing_outcome e ∙ p ∙ rw (first-begun, all_blocks)

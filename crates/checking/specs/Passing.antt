@@ -1,20 +1,19 @@
 -- What pass one stands for, the pass after each block, and what it tells.
 -- Assumes nothing.
-use Rattle.std.specs.Prelude.{ℕ, Bool, true, false, List, [], ◌∷◌}
+use Rattle.std.specs.Prelude.{ℕ, true, false, List, [], ◌∷◌, Result, Ok, Err}
 use Rattle.meaning.specs.declared.Refusal.{Refusal}
 use Rattle.meaning.specs.declared.Counts.{Counts}
 use Rattle.meaning.specs.declared.Format.{Format}
-use Rattle.meaning.specs.Refusals.{no_refusal, is_good}
+use Rattle.meaning.specs.Refusals.{is_good}
 use Rattle.meaning.specs.Blocks.{header_of}
-use Rattle.meaning.specs.Walk.{no_counts, counted_by, is_open, set_rule, Outcome}
+use Rattle.meaning.specs.Walk.{counted_by, is_open, set_rule, Outcome}
 use Rattle.meaning.specs.Walk.Outcome.{refused, accepted}
 use Rattle.output.specs.Output.{past}
-use Rattle.text.specs.declared.Tally.{Tally}
 use Rattle.sets.specs.declared.Sets.{Sets}
 use Rattle.sets.specs.declared.Step.{Step}
-use Rattle.sets.specs.declared.Step.TheVariants.{NoRoom, Broken, Pending, Closed}
+use Rattle.sets.specs.declared.Step.TheVariants.{NoRoom, Pending, Closed}
 use Rattle.sets.specs.Assembling.{set_of, assembly_of, step_in, text_after}
-use Rattle.closed.specs.Body.{Body, empty_body, lay_set}
+use Rattle.closed.specs.Body.{Body, lay_set}
 use Rattle.checking.specs.declared.Checked.{Checked}
 use Rattle.checking.specs.declared.blocks.Pass.{Pass}
 
@@ -22,20 +21,18 @@ use Rattle.checking.specs.declared.blocks.Pass.{Pass}
 pub record Passing : Type 0 where
   pub pass : Pass
   pub text : List ℕ
-  pub out : List ℕ
-  pub marks : List Bool
+  pub body : Body
 
 -- what a pass stands for, with its text buffer and what it laid
-unfoldable pub outcome_of : Pass → List ℕ → List ℕ → List Bool → Outcome Body
-outcome_of w text out marks =
+unfoldable pub outcome_of : Pass → List ℕ → Body → Outcome Body
+outcome_of w text body =
     elim (is_good w.refusal) [
-      | true ↦
-          accepted (record { assembly = assembly_of w.sets text; counts = w.counts; gathered = record { out = out; marks = marks; tally = w.tally } })
+      | true ↦ accepted (record { assembly = assembly_of w.sets text; counts = w.counts; gathered = body })
       | false ↦ refused w.refusal
     ]
 
 abbrev pub passing_outcome : Passing → Outcome Body
-passing_outcome p = outcome_of p.pass p.text p.out p.marks
+passing_outcome p = outcome_of p.pass p.text p.body
 
 -- one more, and never above the largest number
 abbrev pub more : ℕ → ℕ
@@ -46,23 +43,25 @@ abbrev pub counts_after : List ℕ → Pass → List ℕ → Counts
 counts_after b w text = counted_by more (is_open (assembly_of w.sets text)) (header_of b) w.counts
 
 abbrev pub refused_pass : Pass → Refusal → Pass
-refused_pass w r = record { refusal = r; sets = w.sets; counts = w.counts; tally = w.tally }
+refused_pass w r = record { refusal = r; sets = w.sets; counts = w.counts }
 
-abbrev pub going_pass : Pass → Sets → Counts → Tally → Pass
-going_pass w s c t = record { refusal = w.refusal; sets = s; counts = c; tally = t }
+abbrev pub going_pass : Pass → Sets → Counts → Pass
+going_pass w s c = record { refusal = w.refusal; sets = s; counts = c }
+
+-- a pass after a block, where the block gave the pass or broke a rule
+unfoldable pub pass_after : Pass → Result Pass Refusal → Pass
+pass_after w (Ok next) = next
+pass_after w (Err r) = refused_pass w r
 
 -- a pass after a step, with the counts and the text buffer after it: a set that closes is judged, and laid if it is good
-unfoldable pub stepped : Format → Counts → List ℕ → Passing → Step → Passing
-stepped f c text p NoRoom = record { pass = p.pass; text = text; out = p.out; marks = p.marks }
-stepped f c text p (Broken r) = record { pass = refused_pass p.pass r; text = text; out = p.out; marks = p.marks }
-stepped f c text p (Pending s) =
-    record { pass = going_pass p.pass s c p.pass.tally; text = text; out = p.out; marks = p.marks }
-stepped f c text p (Closed set s) =
+unfoldable pub stepped : Format → Counts → List ℕ → Passing → Result Step Refusal → Passing
+stepped f c text p (Err r) = record { pass = refused_pass p.pass r; text = text; body = p.body }
+stepped f c text p (Ok NoRoom) = record { pass = p.pass; text = text; body = p.body }
+stepped f c text p (Ok (Pending s)) = record { pass = going_pass p.pass s c; text = text; body = p.body }
+stepped f c text p (Ok (Closed set s)) =
     elim (is_good (set_rule f (set_of set text))) [
-      | false ↦ record { pass = refused_pass p.pass (set_rule f (set_of set text)); text = text; out = p.out; marks = p.marks }
-      | true ↦
-          (let l = lay_set f (set_of set text) (record { out = p.out; marks = p.marks; tally = p.pass.tally }) in
-          record { pass = going_pass p.pass s c l.tally; text = text; out = l.out; marks = l.marks })
+      | false ↦ record { pass = refused_pass p.pass (set_rule f (set_of set text)); text = text; body = p.body }
+      | true ↦ record { pass = going_pass p.pass s c; text = text; body = lay_set f (set_of set text) p.body }
     ]
 
 -- one block
@@ -76,8 +75,6 @@ pass_all f place p [] = p
 pass_all f place p (b ∷ bs) = elim (is_good p.pass.refusal) [ false ↦ p | true ↦ pass_all f (more place) (block_taken f place b p) bs ]
 
 -- what pass one tells; of a refused file nothing but the refusal
-unfoldable pub checked_of : Outcome Body → Checked
-checked_of (refused r) =
-    record { refusal = r; counts = no_counts; tally = empty_body.tally; marks = record { on = empty_body.marks } }
-checked_of (accepted p) =
-    record { refusal = no_refusal; counts = p.counts; tally = p.gathered.tally; marks = record { on = p.gathered.marks } }
+unfoldable pub checked_of : Outcome Body → Result Checked Refusal
+checked_of (refused r) = Err r
+checked_of (accepted p) = Ok (record { counts = p.counts; tally = p.gathered.tally; marks = record { on = p.gathered.marks } })

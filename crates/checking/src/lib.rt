@@ -5,47 +5,50 @@
 ghost use Rattle.std.specs.Prelude.{◌≡◌, ◌≤◌, length};
 ghost use Rattle.meaning.specs.Walk.{set_rule, finish, walk};
 ghost use Rattle.sets.specs.Assembling.{room_for};
-ghost use Rattle.closed.specs.Body.{empty_body, lay_set};
-ghost use Rattle.checking.specs.Passing.{checked_of};
+ghost use Rattle.closed.specs.Body.{body_of, empty_body, lay_set, KeepsBuffers};
+ghost use Rattle.checking.specs.Passing.{checked_of, outcome_of};
 
+use closed::with_text_room;
 use meaning::{Counts, Format, GSI_SIZE, Look, Refusal};
-use sets::Sets;
+use output::Writer;
 use styles::Marks;
-use text::Tally;
+use text::{BodyWriter, Tally};
 
 mod blocks;
 
 pub use blocks::{Pass, check_more};
 
-// What pass one tells: a refusal, or the counts of blocks, how much is laid, and the looks in use.
+// What pass one tells of a file that is not refused: the counts of blocks, how much is laid, and the looks in use.
 #[derive(Clone, Copy)]
 pub struct Checked {
-    pub refusal: Refusal,
     pub counts: Counts,
     pub tally: Tally,
     pub marks: Marks,
 }
 
 // The first n blocks, with a text buffer that has room for their texts.
-fn check_with(file: &[u8], n: usize, f: Format, text: &mut [u8]) -> Checked
+fn check_all(file: &[u8], n: usize, f: Format, text: &mut [u8], body: &mut BodyWriter) -> Pass
     requires { room_for n ≤ length text.old }
+    ensures passed { outcome_of result text.new (body_of body.new) ≡ walk f (set_rule f) (lay_set f) (body_of body.old) file.now n }
+    ensures buffers { KeepsBuffers body.old body.new }
+{
+    let blocks = block::field(file, GSI_SIZE, file.len());
+    check_more(blocks, n, 0, f, text, body, Pass::BEGUN)
+}
+
+// The first n blocks of any file.
+pub fn check_blocks(file: &[u8], n: usize, f: Format) -> Result<Checked, Refusal>
     ensures { result ≡ checked_of (finish n (walk f (set_rule f) (lay_set f) empty_body file.now n)) }
 {
     let mut out = [0u8; 0];
     let mut on = [false; Look::COUNT];
-    let blocks = block::field(file, GSI_SIZE, file.len());
-    let w = check_more(blocks, n, 0, f, text, &mut out, &mut on, Pass::BEGUN);
-    w.checked(n as u64, Marks { on })
-}
-
-// The first n blocks of any file.
-pub fn check_blocks(file: &[u8], n: usize, f: Format) -> Checked
-    ensures { result ≡ checked_of (finish n (walk f (set_rule f) (lay_set f) empty_body file.now n)) }
-{
-    if n <= Sets::FEW {
-        let mut text = [0u8; Sets::FEW_ROOM];
-        return check_with(file, n, f, &mut text);
-    }
-    let mut text = [0u8; Sets::ROOM];
-    check_with(file, n, f, &mut text)
+    let mut writer = Writer::new(&mut out);
+    let mut body = BodyWriter {
+        writer: &mut writer,
+        marks: &mut on,
+        spans: 0,
+    };
+    let w = with_text_room(n, &mut body, |text, body| check_all(file, n, f, text, body));
+    let tally = body.tally();
+    w.checked(n as u64, tally, Marks { on })
 }

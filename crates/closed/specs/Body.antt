@@ -1,6 +1,6 @@
 -- What is laid over a buffer, and how a closed set is laid.
 -- Assumes nothing.
-use Rattle.std.specs.Prelude.{ℕ, Bool, false, cond, length, replicate}
+use Rattle.std.specs.Prelude.{◌≡◌, ℕ, Bool, false, cond, length, replicate}
 use mathlib.Core.List.{List, [], ◌∷◌, flat_map}
 use Rattle.meaning.specs.declared.Format.{Format}
 use Rattle.meaning.specs.Looks.{look_count}
@@ -8,6 +8,7 @@ use Rattle.meaning.specs.Blocks.{is_comment}
 use Rattle.meaning.specs.Sets.{BlockSet}
 use Rattle.meaning.specs.Document.{Paragraph, write_paragraph, document_looks}
 use Rattle.output.specs.Output.{stored, past}
+use Rattle.text.specs.declared.BodyWriter.{BodyWriter}
 use Rattle.text.specs.declared.Tally.{Tally}
 use Rattle.text.specs.Laid.{marked_with}
 use Rattle.document.specs.Parts.{paragraph_for}
@@ -17,6 +18,16 @@ pub record Body : Type 0 where
   pub out : List ℕ
   pub marks : List Bool
   pub tally : Tally
+
+-- what a body writer has laid
+abbrev pub body_of : BodyWriter → Body
+body_of b = record { out = b.writer.now.out.now; marks = b.marks.now; tally = record { at = b.writer.now.at; spans = b.spans } }
+
+-- a body writer still lays over the buffers that it was made from
+pub record KeepsBuffers (b b' : BodyWriter) : Type 0 where
+  pub writer : b'.writer.ghost_name ≡ b.writer.ghost_name
+  pub out : b'.writer.now.out.ghost_name ≡ b.writer.now.out.ghost_name
+  pub marks : b'.marks.ghost_name ≡ b.marks.ghost_name
 
 -- nothing laid yet, with a buffer of no bytes: what is laid is only measured
 abbrev pub empty_body : Body

@@ -3,20 +3,41 @@
 #![tactic(auto)]
 
 ghost use Rattle.std.specs.Prelude.{◌≡◌, List, length};
-ghost use Rattle.meaning.specs.Gsi.{format_of};
-ghost use Rattle.meaning.specs.Walk.{Subtitle, Progress, outcome};
-ghost use Rattle.meaning.specs.Walk.Outcome.{accepted};
-ghost use Rattle.meaning.specs.Document.{render};
-ghost use Rattle.meaning.specs.Conversion.{document_of, refusal, refused_answer, accepted_answer, answer, output};
+ghost use Rattle.meaning.specs.Refusals.{verdict};
+ghost use Rattle.meaning.specs.Conversion.{refusal, refused_answer, accepted_answer, answer, output};
 ghost use Rattle.laws.specs.Demands.{FewestSpans};
-ghost use Rattle.output.specs.Output.{Wrote};
-ghost use Rattle.convert.specs.Telling.{marks_of, measured, answer_of};
+ghost use Rattle.convert.specs.Telling.{measured, answer_of, within_room, examined, answered, WritesDocument};
 
 use checking::Checked;
 use meaning::{Answer, Counts, Format, Look, Refusal};
+use output::Writer;
 use styles::Marks;
-use text::Tally;
+use text::BodyWriter;
 
+// A file that is accepted: its answer, and the looks that its document uses.
+#[derive(Clone, Copy)]
+pub struct Accepted {
+    pub answer: Answer,
+    pub marks: Marks,
+}
+
+// A file that is refused, and the length that its answer tells.
+#[derive(Clone, Copy)]
+pub struct Refused {
+    pub refusal: Refusal,
+    pub needed: u64,
+}
+
+// The answer to a file that breaks one of the rules 1 to 15 tells no length.
+impl From<Refusal> for Refused {
+    ghost from_gives = { λ r refused. refused ≡ record { refusal = r; needed = 0 } };
+
+    fn from(refusal: Refusal) -> Refused {
+        Refused { refusal, needed: 0 }
+    }
+}
+
+#[tactic(auto, unfolding(meaning::specs::Conversion::refused_answer))]
 pub fn answer_refused(r: Refusal, needed: u64) -> Answer
     ensures { result ≡ refused_answer r needed }
 {
@@ -24,14 +45,11 @@ pub fn answer_refused(r: Refusal, needed: u64) -> Answer
         number: r.number,
         place: r.place,
         length: needed,
-        subtitles: 0,
-        comments: 0,
-        continuations: 0,
-        users: 0,
-        spans: 0,
+        ..Answer::default()
     }
 }
 
+#[tactic(auto, unfolding(meaning::specs::Conversion::accepted_answer))]
 fn answer_accepted(written: u64, c: Counts, spans: u64) -> Answer
     ensures { result ≡ accepted_answer written c spans }
 {
@@ -48,82 +66,78 @@ fn answer_accepted(written: u64, c: Counts, spans: u64) -> Answer
 }
 
 // The length of a document with these looks in use, whose paragraphs have the given length.
-fn length_of(rate: u8, marks: Marks, body: usize) -> usize
-    ensures { result ≡ measured rate marks.on body }
+#[tactic(auto, unfolding(crate::specs::Telling::measured))]
+fn length_of(rate: u8, marks: &Marks, paragraphs: usize) -> usize
+    ensures { result ≡ measured rate marks.now.on paragraphs }
 {
-    let mut none = [0u8; 1];
-    let head = document::put_head(&mut none, 0, rate, marks);
-    document::put_tail(&mut none, output::after(head, body))
+    let mut none = [0u8; 0];
+    let mut w = Writer::new(&mut none);
+    document::put_head(&mut w, rate, marks);
+    w.at = output::after(w.at, paragraphs);
+    document::put_tail(&mut w);
+    w.at
+}
+
+// Rule 16, for a file that breaks none of the others, by what pass one told.
+#[tactic(auto, unfolding(crate::specs::Telling::within_room, crate::specs::Telling::examined_by))]
+fn within_room(f: Format, c: Checked, room: usize) -> Result<Accepted, Refused>
+    ensures { result ≡ within_room f room c }
+{
+    let needed = length_of(f.rate, &c.marks, c.tally.at);
+    if room < needed {
+        let refusal = Refusal {
+            number: 16,
+            ..Refusal::NONE
+        };
+        return Err(Refused {
+            refusal,
+            needed: needed as u64,
+        });
+    }
+    let answer = answer_accepted(needed as u64, c.counts, c.tally.spans as u64);
+    Ok(Accepted {
+        answer,
+        marks: c.marks,
+    })
+}
+
+#[tactic(auto, unfolding(crate::specs::Telling::answered))]
+fn answered(examined: Result<Accepted, Refused>) -> Answer
+    ensures { result ≡ answered examined }
+{
+    match examined {
+        Ok(a) => a.answer,
+        Err(r) => answer_refused(r.refusal, r.needed),
+    }
 }
 
 // The answer by what pass one told, for a buffer of some length.
-pub fn answer_of(f: Format, c: Checked, room: usize) -> Answer
+#[tactic(auto, unfolding(crate::specs::Telling::answer_of))]
+pub fn answer_of(f: Format, c: Result<Checked, Refusal>, room: usize) -> Answer
     ensures { result ≡ answer_of f room c }
 {
-    let refusal = c.refusal;
-    if refusal.number != 0 {
-        return answer_refused(refusal, 0);
+    match c {
+        Ok(c) => answered(within_room(f, c, room)),
+        Err(r) => answer_refused(r, 0),
     }
-    let tally = c.tally;
-    let needed = length_of(f.rate, c.marks, tally.at);
-    if room < needed {
-        let too_long = Refusal {
-            number: 16,
-            place: 0,
-            offset: 0,
-        };
-        return answer_refused(too_long, needed as u64);
-    }
-    answer_accepted(needed as u64, c.counts, tally.spans as u64)
 }
 
-// An answer, the offset of its refusal, and the looks that the document uses.
-#[derive(Clone, Copy)]
-struct Examined {
-    answer: Answer,
-    offset: u64,
-    marks: Marks,
-}
-
-fn examine(file: &[u8], mode: u64, room: usize) -> Examined
-    ensures answer { result.answer ≡ answer mode file.now room }
-    ensures offset { result.offset ≡ (refusal mode file.now room).offset }
-    ensures marks { (p : Progress (List Subtitle)) → outcome mode file.now ≡ accepted p → result.marks.on ≡ marks_of (format_of mode file.now) p.gathered }
+fn examine(file: &[u8], mode: u64, room: usize) -> Result<Accepted, Refused>
+    ensures { result ≡ examined mode file.now room }
 {
-    let rule = gsi::file_rule(file, mode);
-    if rule.number != 0 {
-        let answer = answer_refused(rule, 0);
-        return Examined {
-            answer,
-            offset: rule.offset,
-            marks: Marks {
-                on: [false; Look::COUNT],
-            },
-        };
-    }
+    gsi::file_rule(file, mode)?;
     let f = gsi::format(file, mode);
-    let c = checking::check_blocks(file, gsi::block_count(file), f);
-    let answer = answer_of(f, c, room);
-    let refusal = c.refusal;
-    let marks = c.marks;
-    Examined {
-        answer,
-        offset: refusal.offset,
-        marks,
-    }
+    let c = checking::check_blocks(file, gsi::block_count(file), f)?;
+    within_room(f, c, room)
 }
 
-// The refusal of any file, for any break mode and a buffer of any length, or none. Number and place are the answer's; 16 has
-// offset 0, as no refusal has.
-pub fn refusal(file: &[u8], mode: u64, room: usize) -> Refusal
-    ensures { result ≡ refusal mode file.now room }
+// The rule that any file breaks, for any break mode and a buffer of any length; 16 has offset 0.
+pub fn refusal(file: &[u8], mode: u64, room: usize) -> Result<(), Refusal>
+    ensures { result ≡ verdict (refusal mode file.now room) }
 {
-    let examined = examine(file, mode, room);
-    let a = examined.answer;
-    Refusal {
-        number: a.number,
-        place: a.place,
-        offset: examined.offset,
+    match examine(file, mode, room) {
+        Ok(_) => Ok(()),
+        Err(r) => Err(r.refusal),
     }
 }
 
@@ -131,22 +145,25 @@ pub fn refusal(file: &[u8], mode: u64, room: usize) -> Refusal
 pub fn check(file: &[u8], mode: u64, room: usize) -> Answer
     ensures { result ≡ answer mode file.now room }
 {
-    let e = examine(file, mode, room);
-    e.answer
+    answered(examine(file, mode, room))
 }
 
 // Pass two, over a file that pass one accepted: head, paragraphs, tail.
-fn write(file: &[u8], mode: u64, out: &mut [u8], marks: Marks) -> usize
-    ensures { (p : Progress (List Subtitle)) → outcome mode file.now ≡ accepted p → marks.on ≡ marks_of (format_of mode file.now) p.gathered → Wrote out.old 0 (render (document_of (format_of mode file.now) p.gathered)) out.new result }
+fn write(file: &[u8], mode: u64, out: &mut [u8], marks: &Marks)
+    ensures { WritesDocument mode file.now marks.now out.old out.new }
 {
     let f = gsi::format(file, mode);
-    let n = gsi::block_count(file);
-    let at = document::put_head(out, 0, f.rate, marks);
-    let t = Tally { at, spans: 0 };
     // The looks are marked once more, and not read.
     let mut again = [false; Look::COUNT];
-    let tally = writing::write_blocks(file, n, f, out, &mut again, t);
-    document::put_tail(out, tally.at)
+    let mut w = Writer::new(out);
+    document::put_head(&mut w, f.rate, marks);
+    let mut body = BodyWriter {
+        writer: &mut w,
+        marks: &mut again,
+        spans: 0,
+    };
+    writing::write_blocks(file, gsi::block_count(file), f, &mut body);
+    document::put_tail(&mut w);
 }
 
 // The answer to any file, any break mode and any buffer. A refusal writes nothing; an acceptance writes the document's bytes only.
@@ -155,12 +172,11 @@ pub fn convert(file: &[u8], mode: u64, out: &mut [u8]) -> Answer
     ensures buffer { out.new ≡ output mode file.now out.old }
     ensures fewest { result.number ≡ 0 → FewestSpans mode file.now result out.new }
 {
-    let e = examine(file, mode, out.len());
-    let a = e.answer;
-    if a.number != 0 {
-        return a;
+    match examine(file, mode, out.len()) {
+        Ok(a) => {
+            write(file, mode, out, &a.marks);
+            a.answer
+        }
+        Err(r) => answer_refused(r.refusal, r.needed),
     }
-    let marks = e.marks;
-    write(file, mode, out, marks);
-    a
 }

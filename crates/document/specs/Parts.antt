@@ -7,7 +7,7 @@ use Rattle.meaning.specs.Conversion.{paragraph_with}
 use Rattle.styles.specs.Styles.{looks_marked}
 use Rattle.meaning.specs.declared.Header.{Header}
 use Rattle.meaning.specs.declared.Format.{Format}
-use Rattle.text.specs.declared.Tally.{Tally}
+use Rattle.text.specs.declared.BodyWriter.{BodyWriter}
 use Rattle.text.specs.Laid.{Laid, content_of}
 
 -- all that stands before the paragraphs
@@ -18,6 +18,6 @@ head_of rate on = joined (head_parts rate (looks_marked on))
 unfoldable pub paragraph_for : Format → Header → List ℕ → Paragraph
 paragraph_for f h text = paragraph_with h (content_of f h.vp text)
 
--- a paragraph laid from a tally on
-abbrev pub ParagraphLaid : List ℕ → List Bool → Tally → Paragraph → List ℕ → List Bool → Tally → Type 0
-ParagraphLaid buf on t p buf' on' r = Laid buf on t (write_paragraph p) (looks_of p.pieces) buf' on' r
+-- a paragraph laid after what a body's writer has written
+abbrev pub ParagraphLaid : BodyWriter → Paragraph → BodyWriter → Type 0
+ParagraphLaid body p body' = Laid body (write_paragraph p) (looks_of p.pieces) body'

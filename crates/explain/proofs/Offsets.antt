@@ -4,30 +4,15 @@ use Prim.Native.Nat.{ℕ, suc, ◌+◌, ◌-◌, ◌≤◌, ◌<◌}
 use native.Mathlib.Omega.{arith}
 use native.Mathlib.Numerals.{add-one}
 use mathlib.Core.Path.{◌≡◌, sym}
-use mathlib.Core.Bool.{Bool, true, false}
 use mathlib.Core.List.{List, []}
 use lib.ListN.{length}
 use borrow.Author.Tests.{lt-ltb, le-ltb}
-use Rattle.meaning.specs.declared.Header.{Header}
 use Rattle.meaning.specs.Gsi.{block_count}
 use Rattle.meaning.specs.Blocks.{header_size, text_size, block_start, block_at, header_of, block_text}
 use Rattle.meaning.specs.Sets.{is_user}
 use Rattle.meaning.specs.Reasons.{text_at, text_offset}
 use Rattle.meaning.proofs.Logic.{by_cond}
 use Rattle.meaning.proofs.Texts.{text-short}
-
--- the text of a block, by what is read of it
-module _ (file : List ℕ) (k : ℕ) {b : List ℕ} {h : Header} {user : Bool} (at : b ≡ block_at file k) (hd : h ≡ header_of b) (us : user ≡ is_user h) where
-  user-is : is_user (header_of (block_at file k)) ≡ user
-  user-is = rw (sym at, sym hd) (sym us)
-
-  pub no_text : user ≡ true → 0 ≡ length (text_at file k)
-  unfolding text_at
-  no_text u = rw (user-is, u)
-
-  pub own-text : user ≡ false → {t : List ℕ} → t ≡ block_text b → length t ≡ length (text_at file k)
-  unfolding text_at
-  own-text u e = rw (user-is, u, sym at) (rw e)
 
 -- what is left of a text, from block k on, of n blocks
 module _ (file : List ℕ) (n k left : ℕ) where

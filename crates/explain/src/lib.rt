@@ -9,9 +9,10 @@ ghost use Rattle.meaning.specs.Reasons.{text_at, text_offset, offset_in, byte_at
 ghost use Rattle.reasons.specs.Explained.{Told};
 ghost use Rattle.explain.specs.Places.{InReach};
 
-use meaning::{BLOCK_SIZE, FileByte, GSI_SIZE, HEADER_SIZE, Reason, Refusal};
+use meaning::{BLOCK_SIZE, GSI_SIZE, HEADER_SIZE, Reason, Refusal};
 
 // How many bytes the text of block k has; user data has none.
+#[tactic(auto, unfolding(meaning::specs::Reasons::text_at))]
 fn text_size(file: &[u8], k: usize) -> usize
     ensures { result ≡ length (text_at file.now k) }
 {
@@ -34,46 +35,36 @@ fn block_start(k: u64) -> u64
 fn text_offset(file: &[u8], place: usize, i: usize) -> u64
     ensures { result ≡ text_offset file.now (block_count file.now - place) place i }
 {
-    let n = gsi::block_count(file);
-    let mut k = place;
     let mut left = i;
-    while k < n {
+    for k in place..gsi::block_count(file) {
         let size = text_size(file, k);
         if left < size {
             return block_start(k as u64) + HEADER_SIZE as u64 + left as u64;
         }
         left -= size;
-        k += 1;
     }
     file.len() as u64
 }
 
-// Where in the file a refusal of the file stands.
+// Where in the file a refusal of the file stands: by its number, as `Reasons.offset_in`, which is the one that callers in C get.
+#[tactic(auto, unfolding(meaning::specs::Reasons::offset_in))]
 fn offset_in(file: &[u8], r: Refusal) -> u64
     requires { InReach r }
     ensures { result ≡ offset_in file.now r }
 {
-    if (r.number == 0) | (15 < r.number) {
-        return file.len() as u64;
+    match r.number {
+        1..=6 => r.offset,
+        7..=12 => block_start(r.place) + r.offset,
+        13..=15 => text_offset(file, r.place as usize, r.offset as usize),
+        _ => file.len() as u64,
     }
-    if r.number < 7 {
-        return r.offset;
-    }
-    if r.number < 13 {
-        return block_start(r.place) + r.offset;
-    }
-    text_offset(file, r.place as usize, r.offset as usize)
 }
 
-fn byte_at(file: &[u8], offset: u64) -> FileByte
+#[tactic(auto, unfolding(meaning::specs::Reasons::byte_at))]
+fn byte_at(file: &[u8], offset: u64) -> Option<u8>
     ensures { result ≡ byte_at file.now offset }
 {
-    let i = offset as usize;
-    if i < file.len() {
-        FileByte::Present(file[i])
-    } else {
-        FileByte::Absent
-    }
+    file.get(offset as usize).copied()
 }
 
 // The reason for the answer to any file, any break mode and a buffer of any length; an accepted file has number 0.
@@ -81,13 +72,15 @@ pub fn explain(file: &[u8], mode: u64, room: usize) -> Reason
     ensures reason { result ≡ reason mode file.now room }
     ensures told { Told mode file.now room result }
 {
-    let r = convert::refusal(file, mode, room);
+    // An accepted file has number 0 in `Reasons.reason`.
+    let r = convert::refusal(file, mode, room)
+        .err()
+        .unwrap_or(Refusal::NONE);
     let offset = offset_in(file, r);
-    let byte = byte_at(file, offset);
     Reason {
         number: r.number,
         block: r.place,
         offset,
-        byte,
+        byte: byte_at(file, offset),
     }
 }

@@ -14,6 +14,7 @@ use Rattle.meaning.specs.TextRules.{before_fault, end_first, odd_ends, misplaced
 use Rattle.meaning.proofs.Logic.{by_test}
 use Rattle.meaning.proofs.ListLaws.{any-cons}
 use Rattle.charset.specs.declared.Reading.{Reading}
+use Rattle.charset.specs.Reading.{readings_from}
 use Rattle.charset.proofs.Laws.{ReadOn, tokens-end}
 use Rattle.rows.proofs.Laws.{first-end, first_more}
 use Rattle.faults.specs.declared.Past.{Past}
@@ -33,6 +34,13 @@ pub record HeightsLeft (double paired : Bool) (s : List ℕ) (p : Past) (i : ℕ
   pub past : List Token
   pub known : p ≡ past_of past
   pub reached : Reached (breaks_heights double paired) s past i
+
+-- the same, with the readings that are left
+pub record HeightsRest (double paired : Bool) (s : List ℕ) (p : Past) (left : List (ℕ × Reading)) : Type 0 where
+  pub at : ℕ
+  pub readings : left ≡ readings_from s at
+  pub within : at ≤ length s
+  pub heights : HeightsLeft double paired s p at
 
 pub heights-start : (double paired : Bool) (s : List ℕ) → HeightsLeft double paired s (record { later = false; character = false; ended = false }) 0
 unfolding past_of any end_first first_row take_while
@@ -69,6 +77,11 @@ height_fault_lem s mode d p e = e ∙ rw (p, d)
 -- the row ends from `start` on are those counted, an odd number of them or not, and those from position i on
 pub record OddLeft (s : List ℕ) (start : ℕ) (odd : Bool) (i : ℕ) : Type 0 where
   pub ends : cond odd (not (odd_ends (tokens (drop i s)))) (odd_ends (tokens (drop i s))) ≡ odd_ends (tokens (drop start s))
+
+pub record OddRest (s : List ℕ) (start : ℕ) (odd : Bool) (left : List (ℕ × Reading)) : Type 0 where
+  pub at : ℕ
+  pub readings : left ≡ readings_from s at
+  pub ends : OddLeft s start odd at
 
 pub odd_start : (s : List ℕ) (start : ℕ) → OddLeft s start false start
 odd_start s start = record { ends = refl }

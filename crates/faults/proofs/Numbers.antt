@@ -6,11 +6,16 @@ use mathlib.Core.Path.{◌≡◌, refl, sym, ap, ◌∙◌}
 use mathlib.Core.Bool.{Bool, true, false, cond}
 use mathlib.Core.List.{List, [], ◌∷◌}
 use lib.Dec.{eqb}
+use borrow.Author.Tests.{eq-eqb, ne_eqb}
+use Rattle.std.specs.Prelude.{Ok, Err}
 use Rattle.meaning.specs.declared.Refusal.{Refusal}
 use Rattle.meaning.specs.declared.Format.{Format}
 use Rattle.meaning.specs.Codes.{tokens}
 use Rattle.meaning.specs.Rows.{heights_right}
-use Rattle.meaning.specs.Refusals.{Rule, first_broken, no_refusal}
+use Rattle.meaning.specs.Refusals.{Rule, first_broken, no_refusal, is_good, verdict}
+use Rattle.rows.specs.declared.TextRule.{TextRule}
+use Rattle.rows.specs.declared.TextRule.TheVariants.{Codes, Heights, Fit}
+use Rattle.rows.specs.Scanning.{number_of}
 use Rattle.meaning.specs.TextRules.{code_fault, height_fault, row_fault, text_rules, text_rule}
 
 -- the one of three offsets that belongs to a number
@@ -47,6 +52,12 @@ module _ (x y z : ℕ) where
   at_place place true true false = refl
   at_place place true true true = refl
 
+pub err_number : (r : TextRule) → number_of (Err r) ≡ 0 → ⊥
+unfolding number_of
+err_number Codes e = absurd (omega arith)
+err_number Heights e = absurd (omega arith)
+err_number Fit e = absurd (omega arith)
+
 module _ (f : Format) (vp : ℕ) (s : List ℕ) {n : ℕ} (q : n ≡ (text_rule f 0 vp s).number) where
   -- the offset
   pub offset-told : (text_rule f 0 vp s).offset ≡ by_number (code_fault f.teletext s) (height_fault f.mode s) (row_fault f vp s) n
@@ -64,3 +75,15 @@ module _ (f : Format) (vp : ℕ) (s : List ℕ) {n : ℕ} (q : n ≡ (text_rule 
       → cond (eqb n 0) no_refusal (record { number = n; place = place; offset = o }) ≡ text_rule f place vp s
   unfolding text_rule text_rules
   rule_told place g = rw (q, g) (at_place _ _ _ place _ _ _)
+
+  pub kept_told : (place : ℕ) → n ≡ 0 → Ok tt ≡ verdict (text_rule f place vp s)
+  unfolding verdict is_good no_refusal
+  kept_told place z = ap verdict (rw (eq-eqb n 0 z) at (rule_told place refl))
+
+  pub broken_told :
+      (place : ℕ) {o : ℕ} → (n ≡ 0 → ⊥) → o ≡ (text_rule f 0 vp s).offset
+      → Err (record { number = n; place = place; offset = o }) ≡ verdict (text_rule f place vp s)
+  unfolding verdict is_good
+  broken_told place {o} ne g =
+      let r : verdict (record { number = n; place = place; offset = o }) ≡ Err (record { number = n; place = place; offset = o }) = rw (ne_eqb n 0 ne, verdict) in
+      sym r ∙ ap verdict (rw (ne_eqb n 0 ne) at (rule_told place g))

@@ -7,7 +7,8 @@ use mathlib.Core.Bool.{Bool, true, false, not, ◌&&◌, ◌||◌}
 use mathlib.Core.List.{List, [], ◌∷◌, tail}
 use lib.Dec.{ltb}
 use lib.ListN.{length, get_or, take, drop}
-use borrow.Author.Tests.{ltb-false, not-false, not-true}
+use borrow.Author.Tests.{ltb-false}
+use Rattle.std.specs.Prelude.{Some, None}
 use Rattle.meaning.specs.declared.Token.{Token}
 use Rattle.meaning.specs.declared.Rows.{Rows}
 use Rattle.meaning.specs.declared.Format.{Format}
@@ -17,12 +18,11 @@ use Rattle.meaning.specs.Rows.{first_row, is_double, is_paired, breaks_paired, r
 use Rattle.meaning.specs.TextRules.{before_fault, end_first, breaks_rows, break_size, tokens_in, tokens_before, bytes_before, row_fault}
 use Rattle.meaning.proofs.Logic.{and_parts, or-none}
 use Rattle.meaning.proofs.TextPlaces.{bytes-add}
-use Rattle.charset.specs.Reading.{after_row_at}
 use Rattle.rows.specs.declared.Row.{Row}
-use Rattle.rows.specs.Scanned.{is_ended, row_at, next_row_at}
+use Rattle.rows.specs.Scanned.{is_ended, row_at, next_row_at, row_end_after}
 use Rattle.rows.proofs.FirstRow.{rows_after}
 use Rattle.rows.proofs.Laws.{rows-first, rows-after, no_rows_after}
-use Rattle.rows.proofs.RowEnds.{rest-after, on-after, start-on, next-rows}
+use Rattle.rows.proofs.RowEnds.{EndedAt, ended_at, not_ended, open-end, start-on, start-within, next-rows}
 use Rattle.faults.specs.Searching.{row_name}
 use Rattle.faults.proofs.Passing.{Passed, passed_start, passed-found, passed-more, passed-end}
 use Rattle.faults.proofs.RowBytes.{row-bytes}
@@ -47,6 +47,7 @@ pub record RowsLeft (f : Format) (vp : ℕ) (double paired : Bool) (s : List ℕ
   pub place : start ≡ bytes_before (tokens_to paired s (length past)) s
   pub gap : start - break_size paired ≡ bytes_before (tokens_to paired s (length past) - break_size paired) s
   pub even : (not paired || even_from false (tokens (drop start s))) ≡ true
+  pub within : start ≤ length s
 
 -- where the search ends
 abbrev pub row_fault_of : Format → ℕ → Bool → Bool → List ℕ → ℕ
@@ -60,7 +61,7 @@ pub rows_start :
 unfolding tokens_in bytes_before
 rows_start f vp double paired s e =
     let z : 0 - break_size paired ≡ 0 = omega arith in
-    record { past = []; number = refl; passed = passed_start; rest = refl; place = refl; gap = rw z; even = e }
+    record { past = []; number = refl; passed = passed_start; rest = refl; place = refl; gap = rw z; even = e; within = omega arith }
 
 module _ {f : Format} {vp : ℕ} {double paired : Bool} {s : List ℕ} {start count : ℕ} (l : RowsLeft f vp double paired s start count) where
   abbrev us : List Token
@@ -87,13 +88,9 @@ module _ {f : Format} {vp : ℕ} {double paired : Bool} {s : List ℕ} {start co
         let k = passed-found l.passed (rows-first paired us) (sym tested ∙ e) in
         rw (← k, at_place done _ here) (g ∙ named (first_row us))
 
-    row_next : row.next ≡ after_row_at s start
+    row-after : row.after ≡ row_end_after s start
     unfolding row_at
-    row_next = ap (λ (r : Row). r.next) q
-
-    row-ended : row.ended ≡ is_ended us
-    unfolding row_at
-    row-ended = ap (λ (r : Row). r.ended) q
+    row-after = ap (λ (r : Row). r.after) q
 
     -- the tokens and the bytes up to m tokens of this row
     to_next : tokens_to paired s (suc done) ≡ tokens_to paired s done + (length (first_row us) + break_size paired)
@@ -107,15 +104,15 @@ module _ {f : Format} {vp : ℕ} {double paired : Bool} {s : List ℕ} {start co
       row-passed = passed-more l.passed (rows-first paired us) (sym tested ∙ e)
 
       -- the last row
-      pub rows_last : not row.ended ≡ true → row.next ≡ row_fault_of f vp double paired s
+      pub rows_last : row.after ≡ None → length s ≡ row_fault_of f vp double paired s
       unfolding tokens_before
       rows_last g =
-          let z = sym row-ended ∙ not-true row.ended g in
+          let z = not_ended s start row-after g in
           let none = no_rows_after paired us z in
           let k = passed-end row-passed none in
           let w = row-bytes s start in
           let m : tokens_to paired s (suc done) - break_size paired ≡ tokens_to paired s done + w.row = omega (arith, to_next, w.size) in
-          rw (← k, at_place (suc done) _ (from_next done _ here ∙ none), m) (row_next ∙ w.last z ∙ sym (bytes_to w.row))
+          rw (← k, at_place (suc done) _ (from_next done _ here ∙ none), m) (sym (open-end s start z l.within) ∙ w.last z ∙ sym (bytes_to w.row))
 
       -- the row is low, so that another can be counted
       pub count_low : f.screen.end < 256 → count ≤ 255
@@ -124,28 +121,29 @@ module _ {f : Format} {vp : ℕ} {double paired : Bool} {s : List ℕ} {start co
           let w = or-none (not row.short) (ltb f.screen.end end) (sym b ∙ e) in
           omega (arith, ltb-false f.screen.end end w.1, lines_ge double (record { 0 = count }))
 
-      module _ (g : not row.ended ≡ false) {n : ℕ} (h : n ≡ next_row_at s paired row.next) where
+      module _ {next : ℕ} (g : row.after ≡ Some next) {n : ℕ} (h : n ≡ next_row_at s paired next) where
+        end : EndedAt s start next
+        end = ended_at s start row-after g
+
         ended : is_ended us ≡ true
-        ended = sym row-ended ∙ not-false row.ended g
+        ended = end.ended
 
         -- what is left falls
         pub rows_less : length s - n < length s - start
-        rows_less =
-            let o = on-after s start row_next row-ended (not-false row.ended g) in
-            omega (arith, o.0, o.1, start-on s paired row.next)
+        rows_less = omega (arith, end.on, end.within, start-on s paired next)
 
         -- another row
         pub rows_more : RowsLeft f vp double paired s n (count + 1)
         rows_more =
-            let after = rest-after s start row_next in
-            let following = next-rows s paired row.next us h after in
+            let after = end.rest in
+            let following = next-rows s paired next us h after in
             let ev = even-next paired us ended l.even in
             let w = row-bytes s start in
             let T = tokens_to paired s done + w.row in
-            let here_end : row.next ≡ suc (bytes_before T s) = omega (arith, row_next, w.end ended, bytes_to w.row) in
+            let here_end : next ≡ suc (bytes_before T s) = omega (arith, end.place, w.end ended, bytes_to w.row) in
             let one : tokens_to paired s done + suc w.row ≡ suc T = omega arith in
-            let on-end : row.next ≡ bytes_before (suc T) s = rw (← one) (row_next ∙ w.on ended ∙ sym (bytes_to (suc w.row))) in
-            let p = break_passed s paired T (bytes_before T s) row.next here_end on-end (λ z. ap end_first after ∙ ev.0 z) h in
+            let on-end : next ≡ bytes_before (suc T) s = rw (← one) (end.place ∙ w.on ended ∙ sym (bytes_to (suc w.row))) in
+            let p = break_passed s paired T (bytes_before T s) next here_end on-end (λ z. ap end_first after ∙ ev.0 z) h in
             let whole : T + break_size paired ≡ tokens_to paired s (suc done) = omega (arith, to_next, w.size) in
             let part : tokens_to paired s (suc done) - break_size paired ≡ T = omega arith in
             let back : n - break_size paired ≡ bytes_before T s = omega (arith, p.0) in
@@ -157,6 +155,7 @@ module _ {f : Format} {vp : ℕ} {double paired : Bool} {s : List ℕ} {start co
               place = p.1 ∙ ap (λ (k : ℕ). bytes_before k s) whole;
               gap = back ∙ ap (λ (k : ℕ). bytes_before k s) (sym part);
               even = rw following ev.1;
+              within = omega (arith, h, start-within s paired next end.within);
             }
 
 -- the fault, with the height and the pairing that were asked

@@ -5,13 +5,25 @@ use mathlib.Core.Path.{◌≡◌, refl, sym, ap, ◌∙◌}
 use mathlib.Core.Bool.{Bool, true, false, not}
 use mathlib.Core.List.{List, [], ◌∷◌}
 use lib.ListN.{length, drop}
+use Rattle.meaning.specs.declared.Glyph.{Glyph}
 use Rattle.meaning.specs.declared.Token.{Token}
-use Rattle.meaning.specs.Codes.{tokens, is_listed}
+use Rattle.meaning.specs.declared.Token.TheVariants.{Character, Control, Switch, RowEnd, Unlisted}
+use Rattle.meaning.specs.Codes.{tokens, is_listed, is_character}
 use Rattle.meaning.specs.TextRules.{before_fault, breaks_codes, bytes_before, code_fault}
 use Rattle.meaning.proofs.TextPlaces.{bytes_next}
 use Rattle.charset.specs.declared.Reading.{Reading}
+use Rattle.charset.specs.Reading.{readings_from}
 use Rattle.charset.proofs.Laws.{ReadOn, tokens-end}
 use Rattle.faults.proofs.Passing.{Passed, passed_start, passed-found, passed-more, passed-end}
+
+-- a token that is no character
+pub no_character : (t : Token) → ((g : Glyph) → t ≡ Character g → ⊥) → false ≡ is_character t
+unfolding is_character
+no_character (Character g) h = absurd (h g refl)
+no_character (Control c) h = refl
+no_character (Switch c) h = refl
+no_character RowEnd h = refl
+no_character Unlisted h = refl
 
 -- position i of a text is reached, and none of the tokens before it breaks the rule
 pub record Reached (breaks : List Token → Token → List Token → Bool) (s : List ℕ) (past : List Token) (i : ℕ) : Type 0 where
@@ -38,6 +50,13 @@ module _ {breaks : List Token → Token → List Token → Bool} where
 pub record CodesLeft (teletext : Bool) (s : List ℕ) (i : ℕ) : Type 0 where
   pub past : List Token
   pub reached : Reached (breaks_codes teletext) s past i
+
+-- the same, with the readings that are left
+pub record CodesRest (teletext : Bool) (s : List ℕ) (left : List (ℕ × Reading)) : Type 0 where
+  pub at : ℕ
+  pub readings : left ≡ readings_from s at
+  pub within : at ≤ length s
+  pub codes : CodesLeft teletext s at
 
 pub codes-start : (teletext : Bool) (s : List ℕ) → CodesLeft teletext s 0
 codes-start teletext s = record { past = []; reached = reached-start }

@@ -2,13 +2,17 @@
 
 #![tactic(auto)]
 
-ghost use Rattle.std.specs.Prelude.{◌+◌, ◌≡◌, true, not, ◌&&◌, ◌||◌, ltb, drop};
+ghost use Rattle.std.specs.Prelude.{◌+◌, ◌≡◌, true, Err, not, ◌&&◌, ◌||◌, ltb, drop};
 ghost use Rattle.meaning.specs.Codes.{tokens, is_listed, is_character, is_double_height};
 ghost use Rattle.meaning.specs.Rows.{first_row, heights_right, lines_of};
 ghost use Rattle.meaning.specs.TextRules.{odd_ends, break_size, code_fault, height_fault, row_fault, text_rule};
+ghost use Rattle.meaning.specs.Refusals.{verdict};
+ghost use Rattle.rows.specs.Scanning.{number_of};
 ghost use Rattle.faults.specs.Searching.{with_token, row_name};
 
+use charset::Readings;
 use meaning::{Format, Refusal, Rows, Token};
+use rows::TextRule;
 
 fn is_listed(t: Token, teletext: bool) -> bool
     ensures { result ≡ is_listed teletext t }
@@ -25,29 +29,20 @@ fn is_listed(t: Token, teletext: bool) -> bool
 fn is_character(t: Token) -> bool
     ensures { result ≡ is_character t }
 {
-    match t {
-        Token::Character(_) => true,
-        Token::Control(_) => false,
-        Token::Switch(_) => false,
-        Token::RowEnd => false,
-        Token::Unlisted => false,
-    }
+    matches!(t, Token::Character(_))
 }
 
 // Rule 13: where the first code or pair stands that is not listed.
 fn code_fault(text: &[u8], teletext: bool) -> usize
     ensures { result ≡ code_fault teletext text.now }
 {
-    let mut at = 0;
-    while at < text.len() {
-        let read = charset::reading_at(text, at);
+    for (at, read) in Readings::new(text, 0) {
         let t = read.token;
         if !is_listed(t, teletext) {
             return at;
         }
-        at = read.next;
     }
-    at
+    text.len()
 }
 
 // What stands before a token: any row end; a character in the token's row; a row end just before it.
@@ -89,15 +84,12 @@ fn odd_ends(text: &[u8], start: usize) -> bool
     ensures { result ≡ odd_ends (tokens (drop start text.now)) }
 {
     let mut odd = false;
-    let mut i = start;
-    while i < text.len() {
-        let read = charset::reading_at(text, i);
+    for (_, read) in Readings::new(text, start) {
         let t = read.token;
         if !rows::is_row_end(t) {
             return odd;
         }
         odd = !odd;
-        i = read.next;
     }
     odd
 }
@@ -119,17 +111,14 @@ fn height_fault(text: &[u8], f: Format) -> usize
     let double = rows::is_double(text);
     let paired = f.is_paired(double);
     let mut past = Past::NONE;
-    let mut i = 0;
-    while i < text.len() {
-        let read = charset::reading_at(text, i);
+    for (at, read) in Readings::new(text, 0) {
         let t = read.token;
-        if past.forbids(t, double) | starts_odd_run(text, i, past, paired) {
-            return i;
+        if past.forbids(t, double) | starts_odd_run(text, at, past, paired) {
+            return at;
         }
         past = past.with_token(t);
-        i = read.next;
     }
-    i
+    text.len()
 }
 
 // Whether a row breaks rule 15: it is not short, or it is the `count`th row and has a line past the last.
@@ -165,7 +154,7 @@ fn row_name(text: &[u8], paired: bool, start: usize) -> usize
 }
 
 // Rule 15: where the first row stands that is not short, or has a line past the last. Rule 14 holds, so that row ends stand in pairs
-// where they are paired.
+// where they are paired. A `loop`: where a row starts is told by the row before it.
 fn row_fault(text: &[u8], f: Format, vp: u8) -> usize
     requires { heights_right f.mode (tokens text.now) ≡ true }
     ensures { result ≡ row_fault f vp text.now }
@@ -179,43 +168,41 @@ fn row_fault(text: &[u8], f: Format, vp: u8) -> usize
         if breaks_rows(row.short, count, double, f, vp) {
             return row_name(text, paired, start);
         }
-        if !row.ended {
-            return row.next;
-        }
-        start = rows::row_after(text, paired, row.next);
+        let Some(next) = row.after else {
+            return text.len();
+        };
+        start = rows::row_after(text, paired, next);
         count += 1;
     }
 }
 
-// Where a text breaks a rule, by the rule's number.
-fn fault(text: &[u8], f: Format, vp: u8, number: u64) -> usize
-    requires { number ≡ (text_rule f 0 vp text.now).number }
-    ensures { result ≡ (text_rule f 0 vp text.now).offset }
+// The number of a rule that a text breaks, and where it breaks it.
+fn fault(text: &[u8], f: Format, vp: u8, rule: TextRule) -> (u64, usize)
+    requires { number_of (Err rule) ≡ (text_rule f 0 vp text.now).number }
+    ensures number { result.0 ≡ (text_rule f 0 vp text.now).number }
+    ensures offset { result.1 ≡ (text_rule f 0 vp text.now).offset }
 {
-    if number == 13 {
-        return code_fault(text, f.teletext);
+    match rule {
+        TextRule::Codes => (13, code_fault(text, f.teletext)),
+        TextRule::Heights => (14, height_fault(text, f)),
+        TextRule::Fit => (15, row_fault(text, f, vp)),
     }
-    if number == 14 {
-        return height_fault(text, f);
-    }
-    if number == 15 {
-        return row_fault(text, f, vp);
-    }
-    0
 }
 
-// The first of the rules 13, 14 and 15 that the text of a set breaks, and the byte of the text; the set begins at block `place`.
-pub fn text_rule(text: &[u8], f: Format, place: u64, vp: u8) -> Refusal
-    ensures { result ≡ text_rule f place vp text.now }
+// Whether the text of a set keeps the rules 13, 14 and 15, or the first that it breaks, with the byte of the text; the set begins at
+// block `place`.
+pub fn text_rule(text: &[u8], f: Format, place: u64, vp: u8) -> Result<(), Refusal>
+    ensures { result ≡ verdict (text_rule f place vp text.now) }
 {
-    let number = rows::verdict(text, f, vp);
-    if number == 0 {
-        return Refusal::NONE;
-    }
-    let offset = fault(text, f, vp, number) as u64;
-    Refusal {
-        number,
-        place,
-        offset,
+    match rows::verdict(text, f, vp) {
+        Ok(()) => Ok(()),
+        Err(rule) => {
+            let (number, offset) = fault(text, f, vp, rule);
+            Err(Refusal {
+                number,
+                place,
+                offset: offset as u64,
+            })
+        }
     }
 }

@@ -1,2 +1,3 @@
-pub mod Comparing
 pub mod Digits
+pub mod Comparing
+pub mod Rules

@@ -2,10 +2,11 @@
 
 #![tactic(auto)]
 
-ghost use Rattle.std.specs.Prelude.{◌≡◌, ◌&&◌, ◌||◌, ◌^◌, ◌≤◌, ◌<◌, eqb, length, get_or};
-ghost use Rattle.meaning.specs.Lists.{all, same};
-ghost use Rattle.meaning.specs.Refusals.{first_broken};
-ghost use Rattle.meaning.specs.Gsi.{rate_of, block_count, is_digit, number_in, tnb_field, tnb, mnr, dsc, is_teletext, screen_of, format_of, is_whole, gsi_rules, file_rule};
+ghost use Rattle.std.specs.Prelude.{◌≡◌, ◌&&◌, ◌||◌, ◌^◌, ◌≤◌, ◌<◌, eqb, leb, length, get_or, IfSome, is_some, unwrap_or};
+ghost use Rattle.meaning.specs.Lists.{all, field, same, bytes};
+ghost use Rattle.meaning.specs.Refusals.{first_broken, verdict};
+ghost use Rattle.meaning.specs.Gsi.{rate_of, is_rate, block_count, is_digit, cct_at, tnb_field, tnb, mnr, dsc, is_teletext, screen_of, format_of, is_whole, gsi_rules, file_rule};
+ghost use Rattle.gsi.specs.Decimals.{decimal};
 
 use block::field;
 use meaning::{BLOCK_SIZE, Format, GSI_SIZE, Refusal, Screen};
@@ -21,131 +22,114 @@ const TNB_AT: usize = 238;
 
 const MNR_AT: usize = 253;
 
-fn same(a: &[u8], b: &[u8]) -> bool
-    ensures { result ≡ same a.now b.now }
-{
-    if a.len() != b.len() {
-        return false;
-    }
-    let mut i = 0;
-    while i < a.len() {
-        if a[i] != b[i] {
-            return false;
-        }
-        i += 1;
-    }
-    true
-}
-
-fn rate(file: &[u8]) -> u8
-    ensures { result ≡ rate_of file.now }
+// The frames of a second, where DFC is one of the two that there are.
+#[tactic(auto, using(crate::proofs::Comparing::bytes_eq_same), unfolding(meaning::specs::Gsi::rate_of, meaning::specs::Gsi::is_rate, meaning::specs::Lists::bytes))]
+fn rate(file: &[u8]) -> Option<u8>
+    ensures known { is_some result ≡ is_rate (rate_of file.now) }
+    ensures value { unwrap_or result 0 ≡ rate_of file.now }
 {
     let dfc = field(file, DFC_AT, 8);
-    if same(dfc, b"STL25.01") {
-        return 25;
+    if dfc == b"STL25.01".as_slice() {
+        return Some(25);
     }
-    if same(dfc, b"STL30.01") {
-        return 30;
+    if dfc == b"STL30.01".as_slice() {
+        return Some(30);
     }
-    0
+    None
 }
 
+#[tactic(auto, unfolding(meaning::specs::Gsi::block_count))]
 pub fn block_count(file: &[u8]) -> usize
     ensures { result ≡ block_count file.now }
 {
-    if file.len() < GSI_SIZE {
-        return 0;
-    }
-    (file.len() - GSI_SIZE) / BLOCK_SIZE
-}
-
-// The byte at an offset, 0 past the end.
-fn byte(s: &[u8], i: usize) -> u8
-    ensures { result ≡ get_or s.now i 0 }
-{
-    if i < s.len() { s[i] } else { 0 }
-}
-
-fn is_either(x: u64, a: u64, b: u64) -> bool
-    ensures { result ≡ (eqb x a || eqb x b) }
-{
-    (x == a) | (x == b)
+    file.len().saturating_sub(GSI_SIZE) / BLOCK_SIZE
 }
 
 fn is_whole(size: usize) -> bool
     ensures { result ≡ is_whole size }
 {
-    if size < GSI_SIZE {
-        return false;
-    }
-    (size - GSI_SIZE) % BLOCK_SIZE == 0
+    GSI_SIZE <= size && (size - GSI_SIZE) % BLOCK_SIZE == 0
 }
 
-fn is_digit(c: u8) -> bool
-    ensures { result ≡ is_digit c }
-{
-    (48 <= c) & (c <= 57)
-}
-
-// Bytes read as decimal digits: whether all of them are digits, and the number that they write, 0 if not.
-#[derive(Clone, Copy)]
-struct Decimal {
-    valid: bool,
-    value: usize,
-}
-
-fn read_decimal(digits: &[u8]) -> Decimal
+// The number that decimal digits write; none where a byte is no digit.
+#[tactic(auto, using(crate::proofs::Digits::reading_more, crate::proofs::Digits::reading_wrong, crate::proofs::Digits::reading_done), unfolding(meaning::specs::Gsi::is_digit))]
+fn read_decimal(digits: &[u8]) -> Option<usize>
     requires { length digits.now ≤ 5 }
-    ensures valid { result.valid ≡ all is_digit digits.now }
-    ensures value { result.value ≡ number_in digits.now }
-    ensures small { result.value < 10 ^ length digits.now }
+    ensures number { result ≡ decimal digits.now }
+    ensures small { IfSome result (λ n. n < 10 ^ length digits.now) }
 {
     let mut value = 0;
-    let mut i = 0;
-    while i < digits.len() {
-        let c = digits[i];
-        if !is_digit(c) {
-            return Decimal {
-                valid: false,
-                value: 0,
-            };
+    for &c in digits {
+        if !c.is_ascii_digit() {
+            return None;
         }
-        value = 10 * value + (c - 48) as usize;
-        i += 1;
+        value = 10 * value + usize::from(c - b'0');
     }
-    Decimal { valid: true, value }
+    Some(value)
 }
 
 // TNB is five digits and gives the number of blocks.
+#[tactic(auto, using(block::proofs::Fields::field_length), unfolding(meaning::specs::Gsi::tnb, meaning::specs::Gsi::number_in, crate::specs::Decimals::decimal))]
 fn counts_blocks(gsi: &[u8], count: usize) -> bool
     ensures { result ≡ (all is_digit (tnb_field gsi.now) && eqb (tnb gsi.now) count) }
 {
-    let tnb = read_decimal(field(gsi, TNB_AT, 5));
-    tnb.valid & (tnb.value == count)
+    read_decimal(field(gsi, TNB_AT, 5)) == Some(count)
 }
 
 // MNR, 0 where one of its bytes is no digit.
+#[tactic(auto, using(block::proofs::Fields::field_length, crate::proofs::Digits::two_digits, crate::proofs::Digits::decimal_or_0), unfolding(meaning::specs::Gsi::mnr))]
 fn mnr(file: &[u8]) -> u8
     ensures { result ≡ mnr file.now }
 {
-    let rows = read_decimal(field(file, MNR_AT, 2));
-    rows.value as u8
+    read_decimal(field(file, MNR_AT, 2)).unwrap_or(0) as u8
 }
 
+// DSC, 0 in a file that ends before it.
 fn dsc(file: &[u8]) -> u8
     ensures { result ≡ dsc file.now }
 {
-    byte(file, DSC_AT)
+    file.get(DSC_AT).copied().unwrap_or(0)
 }
 
 // DSC is that of a teletext file.
+#[tactic(auto, unfolding(meaning::specs::Gsi::is_teletext))]
 fn is_teletext(file: &[u8]) -> bool
     ensures { result ≡ is_teletext file.now }
 {
-    is_either(dsc(file) as u64, 49, 50)
+    matches!(dsc(file), b'1' | b'2')
+}
+
+// DSC is that of a teletext file or of open subtitles.
+#[tactic(auto, unfolding(meaning::specs::Gsi::is_teletext))]
+fn is_known_kind(gsi: &[u8]) -> bool
+    ensures { result ≡ (is_teletext gsi.now || eqb (dsc gsi.now) 48) }
+{
+    is_teletext(gsi) || dsc(gsi) == b'0'
+}
+
+// A screen of open subtitles has at least one row.
+fn has_rows(gsi: &[u8]) -> bool
+    ensures { result ≡ (is_teletext gsi.now || leb 1 (mnr gsi.now)) }
+{
+    is_teletext(gsi) || 1 <= mnr(gsi)
+}
+
+#[tactic(auto, using(crate::proofs::Comparing::bytes_eq_same), unfolding(meaning::specs::Lists::bytes))]
+fn is_latin(gsi: &[u8]) -> bool
+    ensures { result ≡ same (field cct_at 2 gsi.now) (bytes "00") }
+{
+    field(gsi, CCT_AT, 2) == b"00".as_slice()
+}
+
+// The break modes are 1 and 2.
+fn is_mode(mode: u64) -> bool
+    ensures { result ≡ (eqb mode 1 || eqb mode 2) }
+{
+    matches!(mode, 1 | 2)
 }
 
 // The lines 1 to 23 of a teletext page, or the rows that MNR gives, from 0 on.
+#[tactic(auto, unfolding(meaning::specs::Gsi::screen_of))]
 fn screen_of(file: &[u8]) -> Screen
     ensures { result ≡ screen_of file.now }
 {
@@ -156,45 +140,38 @@ fn screen_of(file: &[u8]) -> Screen
     Screen { first: 0, end }
 }
 
-// How a file is read in a break mode.
+// How a file is read in a break mode. Its rate is 0 where DFC is neither of the two: no file with such a DFC is converted.
+#[tactic(auto, unfolding(meaning::specs::Gsi::format_of))]
 pub fn format(file: &[u8], mode: u64) -> Format
     ensures { result ≡ format_of mode file.now }
 {
-    let rate = rate(file);
-    let screen = screen_of(file);
-    let teletext = is_teletext(file);
     Format {
         mode,
-        rate,
-        screen,
-        teletext,
+        rate: rate(file).unwrap_or(0),
+        screen: screen_of(file),
+        teletext: is_teletext(file),
     }
 }
 
 // The first of the rules 1 to 6 that is broken, by the GSI block, the break mode, the file's end, whether it has whole blocks,
 // and how many.
-pub fn gsi_rule(gsi: &[u8], mode: u64, end: u64, whole: bool, count: usize) -> Refusal
-    ensures { result ≡ first_broken 0 (gsi_rules mode end whole count gsi.now) }
+#[tactic(auto, using(crate::proofs::Rules::gsi_verdict))]
+pub fn gsi_rule(gsi: &[u8], mode: u64, end: u64, whole: bool, count: usize) -> Result<(), Refusal>
+    ensures { result ≡ verdict (first_broken 0 (gsi_rules mode end whole count gsi.now)) }
 {
-    let known_mode = is_either(mode, 1, 2);
-    let rated = rate(gsi) != 0;
-    let teletext = is_teletext(gsi);
-    let dsc = dsc(gsi);
-    let latin = same(field(gsi, CCT_AT, 2), b"00");
-    let counted = counts_blocks(gsi, count);
-    let rows = mnr(gsi);
-    let rule = Refusal::NONE.or(0, 1, end, known_mode);
-    let rule = rule.or(0, 2, end, whole);
-    let rule = rule.or(0, 3, DFC_AT as u64, rated);
-    let rule = rule.or(0, 4, DSC_AT as u64, teletext | (dsc == 48));
-    let rule = rule.or(0, 5, CCT_AT as u64, latin);
-    let rule = rule.or(0, 6, TNB_AT as u64, counted);
-    rule.or(0, 6, MNR_AT as u64, teletext | (1 <= rows))
+    Refusal::unless(is_mode(mode), 1, 0, end)?;
+    Refusal::unless(whole, 2, 0, end)?;
+    Refusal::unless(rate(gsi).is_some(), 3, 0, DFC_AT as u64)?;
+    Refusal::unless(is_known_kind(gsi), 4, 0, DSC_AT as u64)?;
+    Refusal::unless(is_latin(gsi), 5, 0, CCT_AT as u64)?;
+    Refusal::unless(counts_blocks(gsi, count), 6, 0, TNB_AT as u64)?;
+    Refusal::unless(has_rows(gsi), 6, 0, MNR_AT as u64)
 }
 
 // The first of them that a break mode and a file break.
-pub fn file_rule(file: &[u8], mode: u64) -> Refusal
-    ensures { result ≡ file_rule mode file.now }
+#[tactic(auto, unfolding(meaning::specs::Gsi::file_rule, meaning::specs::Gsi::file_rules))]
+pub fn file_rule(file: &[u8], mode: u64) -> Result<(), Refusal>
+    ensures { result ≡ verdict (file_rule mode file.now) }
 {
     let size = file.len();
     gsi_rule(file, mode, size as u64, is_whole(size), block_count(file))

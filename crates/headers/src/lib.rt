@@ -3,60 +3,63 @@
 #![tactic(auto)]
 
 ghost use Rattle.std.specs.Prelude.{◌≡◌, ◌≤◌};
-ghost use Rattle.meaning.specs.Refusals.{first_broken, turns};
+ghost use Rattle.meaning.specs.Refusals.{first_broken, verdict};
 ghost use Rattle.meaning.specs.Blocks.{in_frames, time_rules, times_rules, on_screen, first_block_rules};
 
 use meaning::{Format, Header, Refusal, Screen, Time};
 
+#[tactic(auto, unfolding(meaning::specs::Blocks::in_frames))]
 fn in_frames(t: Time, rate: u8) -> u32
     ensures { result ≡ in_frames rate t }
 {
-    ((t.hours as u32 * 60 + t.minutes as u32) * 60 + t.seconds as u32) * rate as u32
-        + t.frames as u32
+    let minutes = u32::from(t.hours) * 60 + u32::from(t.minutes);
+    let seconds = minutes * 60 + u32::from(t.seconds);
+    seconds * u32::from(rate) + u32::from(t.frames)
 }
 
 // Rule 11 over the bytes of a time, which starts at an offset of the block.
-fn time_rule(rule: Refusal, place: u64, at: usize, t: Time, rate: u8) -> Refusal
+#[tactic(auto, using(meaning::proofs::RefusalLaws::verdict_cons, meaning::proofs::RefusalLaws::verdict_one), unfolding(meaning::specs::Blocks::time_rules))]
+fn time_rule(place: u64, at: u64, t: Time, rate: u8) -> Result<(), Refusal>
     requires { at ≤ 12 }
-    ensures { result ≡ turns place rule (time_rules rate at t) }
+    ensures { result ≡ verdict (first_broken place (time_rules rate at t)) }
 {
-    let rule = rule.or(place, 11, at as u64, t.hours < 24);
-    let rule = rule.or(place, 11, 1 + at as u64, t.minutes < 60);
-    let rule = rule.or(place, 11, 2 + at as u64, t.seconds < 60);
-    rule.or(place, 11, 3 + at as u64, t.frames < rate)
+    Refusal::unless(t.hours < 24, 11, place, at)?;
+    Refusal::unless(t.minutes < 60, 11, place, 1 + at)?;
+    Refusal::unless(t.seconds < 60, 11, place, 2 + at)?;
+    Refusal::unless(t.frames < rate, 11, place, 3 + at)
 }
 
-// Rule 11 over both times. That TCO is after TCI counts only where both are in range, which the refusal so far tells.
-fn times_rule(rule: Refusal, place: u64, start: Time, stop: Time, rate: u8) -> Refusal
-    ensures { result ≡ turns place rule (times_rules rate start stop) }
+// Rule 11 over both times. TCO is compared with TCI only where both are in range.
+#[tactic(auto, using(crate::proofs::Times::times_verdict))]
+fn times_rule(place: u64, start: Time, stop: Time, rate: u8) -> Result<(), Refusal>
+    ensures { result ≡ verdict (first_broken place (times_rules rate start stop)) }
 {
-    let rule = time_rule(rule, place, Header::TCI_AT, start, rate);
-    let rule = time_rule(rule, place, Header::TCO_AT, stop, rate);
-    rule.or(
-        place,
-        11,
-        Header::TCO_AT as u64,
-        in_frames(start, rate) < in_frames(stop, rate),
-    )
+    time_rule(place, Header::TCI_AT as u64, start, rate)?;
+    time_rule(place, Header::TCO_AT as u64, stop, rate)?;
+    let later = in_frames(start, rate) < in_frames(stop, rate);
+    Refusal::unless(later, 11, place, Header::TCO_AT as u64)
 }
 
+#[tactic(auto, unfolding(meaning::specs::Blocks::on_screen))]
 fn on_screen(s: Screen, vp: u8) -> bool
     ensures { result ≡ on_screen s vp }
 {
-    (s.first <= vp) & (vp < s.end)
+    s.first <= vp && vp < s.end
 }
 
 // The first of the rules that the block at a place breaks. A comment is tested for 8 and 9 only.
-pub fn first_block_rule(f: Format, place: u64, least: u32, h: Header) -> Refusal
-    ensures { result ≡ first_broken place (first_block_rules f least h) }
+#[tactic(auto, using(crate::proofs::Times::first_block_verdict, crate::proofs::Times::subtitle_verdict))]
+pub fn first_block_rule(f: Format, place: u64, least: u32, h: Header) -> Result<(), Refusal>
+    ensures { result ≡ verdict (first_broken place (first_block_rules f least h)) }
 {
-    let rule = Refusal::NONE.or(place, 8, Header::CF_AT as u64, h.cf <= 1);
-    let rule = rule.or(place, 9, Header::SN_AT as u64, least <= h.sn as u32);
+    Refusal::unless(h.cf <= 1, 8, place, Header::CF_AT as u64)?;
+    Refusal::unless(least <= u32::from(h.sn), 9, place, Header::SN_AT as u64)?;
     if h.is_comment() {
-        return rule;
+        return Ok(());
     }
-    let rule = rule.or(place, 10, Header::CS_AT as u64, h.cs == 0);
-    let rule = times_rule(rule, place, h.tci, h.tco, f.rate);
-    let rule = rule.or(place, 12, Header::VP_AT as u64, on_screen(f.screen, h.vp));
-    rule.or(place, 12, Header::JC_AT as u64, h.jc <= 3)
+    Refusal::unless(h.cs == 0, 10, place, Header::CS_AT as u64)?;
+    times_rule(place, h.tci, h.tco, f.rate)?;
+    let shown = on_screen(f.screen, h.vp);
+    Refusal::unless(shown, 12, place, Header::VP_AT as u64)?;
+    Refusal::unless(h.jc <= 3, 12, place, Header::JC_AT as u64)
 }

@@ -13,16 +13,15 @@ use std::io::Read;
 // The most bytes of a file, and of the document that it gives.
 pub const LIMIT: usize = 65536;
 
-// The break mode of a digit; 0 for any other byte.
+// The break mode of a digit; 0 for any other byte. A number, as `convert` takes any: rule 1 refuses 0.
+#[tactic(auto, unfolding(crate::specs::Modes::mode_of))]
 pub fn mode_of(digit: u8) -> u64
     ensures { result ≡ mode_of digit }
 {
-    if digit == b'1' {
-        1
-    } else if digit == b'2' {
-        2
-    } else {
-        0
+    match digit {
+        b'1' => 1,
+        b'2' => 2,
+        _ => 0,
     }
 }
 
@@ -34,6 +33,7 @@ pub fn read_full<R: Read>(reader: &mut R, buffer: &mut [u8]) -> io::Result<usize
     ensures failed { OnErr result ((k : ℕ) × ((k ≤ length buffer.new) × Consumes (R.remaining reader.old) (R.remaining reader.new) (take k buffer.new))) }
     ensures end { IfOk result (λ n. n < length buffer.new → IsAtEnd (R.remaining reader.new)) }
 {
+    // A loop of its own: `read_exact` fails at the end of the input, and leaves open how much it read.
     let mut done = 0;
     while done < buffer.len() {
         let n = reader.read(&mut buffer[done..])?;

@@ -1,6 +1,6 @@
 -- A file that is fed in lumps, cut anywhere: the answer is the converter's own on the joined file; and a check after its close.
 -- Assumes nothing.
-use Prim.Native.Nat.{ℕ, min}
+use Prim.Native.Nat.{ℕ, suc, min}
 use native.Mathlib.Omega.{arith}
 use mathlib.Core.Path.{◌≡◌, refl, sym, ap, ◌∙◌}
 use mathlib.Core.Bool.{Bool, true, false, cond}
@@ -18,7 +18,7 @@ use Rattle.meaning.proofs.Logic.{by_test}
 use Rattle.laws.proofs.Bounds.{tnb_bound}
 use Rattle.closed.specs.Body.{empty_body, lay_set}
 use Rattle.checking.specs.Passing.{checked_of}
-use Rattle.convert.proofs.Converting.{answered-rule, answered-walk}
+use Rattle.convert.proofs.Converting.{answer_broken, answer_told}
 use Rattle.feeding.specs.Feeding.{Check, opened, with_block, with_bytes, with_byte, fed}
 use Rattle.feeding.specs.Standing.{standing}
 use Rattle.feeding.proofs.Cutting.{fed-append}
@@ -72,24 +72,16 @@ module _ (mode room : ℕ) (file : List ℕ) where
 
   -- where the file breaks one of the rules 1 to 6, and where it breaks none: TNB then counts its blocks, so that all are walked over
   stands-broken : is_good (file_rule mode file) ≡ false → answer_now (standing mode room file) ≡ answer mode file room
-  unfolding answer_now is_good
-  stands-broken e =
-      let c = standing mode room file in
-      (answered-rule mode file refl room {a = answer_now c} (record { on = [] }) (eqb-false _ 0 e) (rw (same_good ∙ e, answer_now) (rule_now_lem mode room file))).0
+  unfolding answer_now
+  stands-broken e = rw (same_good ∙ e, answer_now) (rule_now_lem mode room file) ∙ answer_broken mode file e room
 
   stands-walked : is_good (file_rule mode file) ≡ true → answer_now (standing mode room file) ≡ answer mode file room
-  unfolding answer_now is_good standing
+  unfolding answer_now standing
   stands-walked e =
       let k = tnb_bound mode file e in
-      let c = standing mode room file in
-      let f = format_of mode c.gsi in
-      let n : min (block_count file) most_blocks ≡ c.count = omega arith in
-      (answered-walk mode file refl (eqb-true _ 0 e) room {a = answer_now c} (checked_of (finish c.count c.outcome))
-      (format_front mode file)
-      (omega arith)
-      (ap (λ (m : ℕ). checked_of (finish c.count (walk f (set_rule f) (lay_set f) empty_body file m))) n)
-      (rw (same_good ∙ e, answer_now))
-      ).0
+      let b : min (block_count file) (suc most_blocks) ≡ block_count file = omega arith in
+      let n : min (block_count file) most_blocks ≡ block_count file = omega arith in
+      rw (same_good ∙ e, answer_now) (rw (format_front mode file, b, n) (answer_told mode file e room))
 
   pub answer-stands : answer_now (standing mode room file) ≡ answer mode file room
   answer-stands = by_test (is_good (file_rule mode file)) stands-walked stands-broken

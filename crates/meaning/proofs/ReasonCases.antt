@@ -5,8 +5,7 @@ use mathlib.Core.Bool.{Bool, true, false, ◌&&◌}
 use mathlib.Core.List.{List, [], ◌∷◌, ◌++◌}
 use lib.Dec.{T, eqb}
 use lib.ListN.{replicate, take, set}
-use Rattle.meaning.specs.declared.FileByte.{FileByte}
-use Rattle.meaning.specs.declared.FileByte.TheVariants.{Present, Absent}
+use Rattle.std.specs.Prelude.{Option, Some, None}
 use Rattle.meaning.specs.declared.Reason.{Reason}
 use Rattle.meaning.specs.Lists.{all}
 use Rattle.meaning.specs.Reasons.{reason}
@@ -20,11 +19,11 @@ record Case : Type 0 where
   room : ℕ
   expected : Reason
 
-same_byte : FileByte → FileByte → Bool
-same_byte (Present b) (Present d) = eqb b d
-same_byte (Present b) Absent = false
-same_byte Absent (Present d) = false
-same_byte Absent Absent = true
+same_byte : Option ℕ → Option ℕ → Bool
+same_byte (Some b) (Some d) = eqb b d
+same_byte (Some b) None = false
+same_byte None (Some d) = false
+same_byte None None = true
 
 same_reason : Reason → Reason → Bool
 same_reason r e =
@@ -36,11 +35,11 @@ holds c = same_reason (reason c.mode c.file c.room) c.expected
 -- the byte at an offset is named; none is, at the end of the file
 named : ℕ → List ℕ → ℕ → ℕ → ℕ → ℕ → Case
 named mode file number block offset byte =
-    record { mode = mode; file = file; room = 65536; expected = record { number = number; block = block; offset = offset; byte = Present byte } }
+    record { mode = mode; file = file; room = 65536; expected = record { number = number; block = block; offset = offset; byte = Some byte } }
 
 unnamed : ℕ → List ℕ → ℕ → ℕ → ℕ → ℕ → Case
 unnamed mode file room number block offset =
-    record { mode = mode; file = file; room = room; expected = record { number = number; block = block; offset = offset; byte = Absent } }
+    record { mode = mode; file = file; room = room; expected = record { number = number; block = block; offset = offset; byte = None } }
 
 -- a file of one subtitle with a text, at line 20, and one that is accepted
 one : List ℕ → List ℕ

@@ -15,5 +15,6 @@ pub mod Sets
 pub mod Walk
 pub mod Document
 pub mod Conversion
+pub mod Answers
 pub mod Reasons
 pub mod Profile

@@ -1,9 +1,7 @@
 -- Why a file is refused: the rule, the block, the offset in the file and the byte there: document 02, request 3.
 -- Assumes nothing.
-use Rattle.std.specs.Prelude.{ℕ, zero, suc, ◌+◌, ◌-◌, true, false, cond, ◌||◌, List, [], ltb, eqb, length, get_or}
+use Rattle.std.specs.Prelude.{Option, Some, None, ℕ, zero, suc, ◌+◌, ◌-◌, true, false, cond, ◌||◌, List, [], ◌∷◌, ltb, eqb, length, get_or}
 use Rattle.meaning.specs.declared.Refusal.{Refusal}
-use Rattle.meaning.specs.declared.FileByte.{FileByte}
-use Rattle.meaning.specs.declared.FileByte.TheVariants.{Present, Absent}
 use Rattle.meaning.specs.declared.Reason.{Reason}
 use Rattle.meaning.specs.Gsi.{block_count}
 use Rattle.meaning.specs.Blocks.{header_size, block_start, block_at, header_of, block_text}
@@ -33,8 +31,8 @@ offset_in file r =
     (text_offset file (block_count file - r.place) r.place r.offset)))
 
 -- the byte at an offset of the file, if there is one
-unfoldable pub byte_at : List ℕ → ℕ → FileByte
-byte_at file o = cond (ltb o (length file)) (Present (get_or file o 0)) Absent
+unfoldable pub byte_at : List ℕ → ℕ → Option ℕ
+byte_at file o = cond (ltb o (length file)) (Some (get_or file o 0)) None
 
 unfoldable pub reason_of : List ℕ → Refusal → Reason
 reason_of file r =
@@ -43,3 +41,16 @@ reason_of file r =
 -- why a file is refused, for a break mode and a buffer of some length; of an accepted file the number is 0
 unfoldable pub reason : ℕ → List ℕ → ℕ → Reason
 reason mode file room = reason_of file (refusal mode file room)
+
+-- 1 for a byte, 0 for none; and the byte, or 0
+unfoldable pub presence_of : Option ℕ → ℕ
+presence_of (Some b) = 1
+presence_of None = 0
+
+unfoldable pub value_of : Option ℕ → ℕ
+value_of (Some b) = b
+value_of None = 0
+
+-- the five numbers of a reason
+unfoldable pub reason_numbers : Reason → List ℕ
+reason_numbers r = r.number ∷ r.block ∷ r.offset ∷ presence_of r.byte ∷ value_of r.byte ∷ []

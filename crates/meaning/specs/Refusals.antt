@@ -1,6 +1,6 @@
 -- The rule that a file breaks, with the block and the offset where, and rules in their order: document 01, "What comes back"; document 02, request 3.
 -- Assumes nothing.
-use Rattle.std.specs.Prelude.{ℕ, Bool, true, false, cond, List, [], ◌∷◌, eqb}
+use Rattle.std.specs.Prelude.{ℕ, Bool, true, false, List, [], ◌∷◌, eqb, Result, Ok, Err}
 use Rattle.meaning.specs.declared.Refusal.{Refusal}
 
 -- a rule: its number, the offset that names it where it is broken, and whether it holds
@@ -22,11 +22,10 @@ unfoldable pub first_broken : ℕ → List Rule → Refusal
 first_broken place [] = no_refusal
 first_broken place (r ∷ rs) = elim r.2 [ true ↦ first_broken place rs | false ↦ record { number = r.0; place = place; offset = r.1 } ]
 
--- a refusal so far, where one rule more holds or not
-unfoldable pub in_turn : Refusal → ℕ → ℕ → ℕ → Bool → Refusal
-in_turn r place number offset holds = cond holds r (cond (is_good r) (record { number = number; place = place; offset = offset }) r)
+-- one rule as a result: it holds, or it is broken at an offset of a block
+unfoldable pub kept : Bool → ℕ → ℕ → ℕ → Result Unit Refusal
+kept holds number place offset = elim holds [ true ↦ Ok tt | false ↦ Err (record { number = number; place = place; offset = offset }) ]
 
--- and all rules of a list
-abbrev pub turns : ℕ → Refusal → List Rule → Refusal
-turns place r [] = r
-turns place r (x ∷ xs) = turns place (in_turn r place x.0 x.1 x.2) xs
+-- a refusal as a result: no rule is broken, or the first that is
+unfoldable pub verdict : Refusal → Result Unit Refusal
+verdict r = elim (is_good r) [ true ↦ Ok tt | false ↦ Err r ]

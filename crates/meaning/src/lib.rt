@@ -3,7 +3,7 @@
 #![tactic(auto)]
 
 ghost use Rattle.std.specs.Prelude.{◌≡◌, ◌≤◌, eqb};
-ghost use Rattle.meaning.specs.Refusals.{in_turn};
+ghost use Rattle.meaning.specs.Refusals.{kept};
 ghost use Rattle.meaning.specs.Blocks.{is_comment};
 ghost use Rattle.meaning.specs.Sets.{is_user};
 ghost use Rattle.meaning.specs.Looks.{white_on_black, bit, pack, unpack, shared, free, blend, on_black};
@@ -24,7 +24,7 @@ pub const ROW_LIMIT: usize = 64;
 // The rule that a file breaks, the block, and the offset: from the start of the file in the rules 1 to 6, of the block in 7 to 12,
 // of the set's text in 13 to 15; 0 in 16. A set open at the end has the block count for its block, and offset 0 there: the file ends
 // at that place. Number 0 at place 0: no rule is broken.
-#[derive(Clone, Copy)]
+#[derive(Clone, Copy, PartialEq, Eq)]
 pub struct Refusal {
     pub number: u64,
     pub place: u64,
@@ -38,42 +38,47 @@ impl Refusal {
         offset: 0,
     };
 
-    // One rule more, at a place: of those that fail the first counts.
-    pub fn or(self, place: u64, number: u64, offset: u64, holds: bool) -> Refusal
-        ensures { result ≡ in_turn self place number offset holds }
+    // One rule at a place: it holds, or it is broken there.
+    #[tactic(auto, unfolding(crate::specs::Refusals::kept))]
+    pub fn unless(holds: bool, number: u64, place: u64, offset: u64) -> Result<(), Refusal>
+        ensures { result ≡ kept holds number place offset }
     {
         if holds {
-            return self;
+            return Ok(());
         }
-        if self.number != 0 {
-            return self;
-        }
-        Refusal {
+        Err(Refusal {
             number,
             place,
             offset,
-        }
+        })
     }
 }
 
-// The byte at an offset of a file, if there is one.
-#[derive(Clone, Copy)]
-pub enum FileByte {
-    Absent,
-    Present(u8),
-}
-
-// Why a file is refused: the rule, the block, the offset in the file, and the byte there.
-#[derive(Clone, Copy)]
+// Why a file is refused: the rule, the block, the offset in the file, and the byte there, if there is one.
+#[derive(Clone, Copy, PartialEq, Eq)]
 pub struct Reason {
     pub number: u64,
     pub block: u64,
     pub offset: u64,
-    pub byte: FileByte,
+    pub byte: Option<u8>,
+}
+
+// The five numbers, for those who store or print a reason: 1 or 0 tells whether there is a byte, and the last is the byte or 0.
+impl From<Reason> for [u64; 5] {
+    ghost use Rattle.meaning.specs.Reasons.{reason_numbers};
+
+    ghost from_gives = { λ r numbers. numbers ≡ reason_numbers r };
+
+    #[tactic(auto, unfolding(crate::specs::Reasons::reason_numbers, crate::specs::Reasons::presence_of, crate::specs::Reasons::value_of))]
+    fn from(r: Reason) -> [u64; 5] {
+        let presence = u64::from(r.byte.is_some());
+        let value = r.byte.map_or(0, u64::from);
+        [r.number, r.block, r.offset, presence, value]
+    }
 }
 
 // What comes back from a conversion, in document 01's order.
-#[derive(Clone, Copy)]
+#[derive(Clone, Copy, Default, PartialEq, Eq)]
 pub struct Answer {
     pub number: u64,
     pub place: u64,
@@ -85,8 +90,29 @@ pub struct Answer {
     pub spans: u64,
 }
 
+// The eight numbers, for those who store or print an answer.
+impl From<Answer> for [u64; 8] {
+    ghost use Rattle.meaning.specs.Answers.{numbers_of};
+
+    ghost from_gives = { λ a numbers. numbers ≡ numbers_of a };
+
+    #[tactic(auto, unfolding(crate::specs::Answers::numbers_of))]
+    fn from(a: Answer) -> [u64; 8] {
+        [
+            a.number,
+            a.place,
+            a.length,
+            a.subtitles,
+            a.comments,
+            a.continuations,
+            a.users,
+            a.spans,
+        ]
+    }
+}
+
 // The blocks of a file by kind. Each set is counted once, at its first block.
-#[derive(Clone, Copy)]
+#[derive(Clone, Copy, Default, PartialEq, Eq)]
 pub struct Counts {
     pub subtitles: u64,
     pub comments: u64,
@@ -95,7 +121,7 @@ pub struct Counts {
 }
 
 // A time code: hours, minutes, seconds, frames.
-#[derive(Clone, Copy)]
+#[derive(Clone, Copy, Default, PartialEq, Eq)]
 pub struct Time {
     pub hours: u8,
     pub minutes: u8,
@@ -104,7 +130,7 @@ pub struct Time {
 }
 
 // The header fields of a TTI block.
-#[derive(Clone, Copy)]
+#[derive(Clone, Copy, Default, PartialEq, Eq)]
 pub struct Header {
     pub sgn: u8,
     pub sn: u16,
@@ -137,6 +163,7 @@ impl Header {
 
     pub const CF_AT: usize = 15;
 
+    #[tactic(auto, unfolding(crate::specs::Blocks::is_comment))]
     pub fn is_comment(self) -> bool
         ensures { result ≡ is_comment self }
     {
@@ -144,6 +171,7 @@ impl Header {
     }
 
     // EBN FEh.
+    #[tactic(auto, unfolding(crate::specs::Sets::is_user))]
     pub fn is_user(self) -> bool
         ensures { result ≡ is_user self }
     {
@@ -152,7 +180,7 @@ impl Header {
 }
 
 // The lines that a subtitle may stand on: from `first` up to, not with, `end`.
-#[derive(Clone, Copy)]
+#[derive(Clone, Copy, PartialEq, Eq)]
 pub struct Screen {
     pub first: u8,
     pub end: u8,
@@ -160,7 +188,7 @@ pub struct Screen {
 
 // How a file is read: the break mode, the frames of a second, the screen, and whether it is for teletext or has open
 // subtitles.
-#[derive(Clone, Copy)]
+#[derive(Clone, Copy, PartialEq, Eq)]
 pub struct Format {
     pub mode: u64,
     pub rate: u8,
@@ -178,14 +206,14 @@ impl Format {
 }
 
 // The character of a cell: a code point, and the combining mark on it, 0 where there is none.
-#[derive(Clone, Copy)]
+#[derive(Clone, Copy, PartialEq, Eq)]
 pub struct Glyph {
     pub point: u16,
     pub mark: u16,
 }
 
 // What one code of a text, or an accent with the code after it, stands for.
-#[derive(Clone, Copy)]
+#[derive(Clone, Copy, PartialEq, Eq)]
 pub enum Token {
     Character(Glyph),
     Control(u8),
@@ -195,20 +223,13 @@ pub enum Token {
 }
 
 // How a cell is shown. A colour has three bits, from the lowest red, green, blue.
-#[derive(Clone, Copy)]
+#[derive(Clone, Copy, PartialEq, Eq)]
 pub struct Look {
     pub italics: bool,
     pub underline: bool,
     pub double: bool,
     pub background: u8,
     pub colour: u8,
-}
-
-fn bit(on: bool) -> u16
-    ensures number { result ≡ bit on }
-    ensures small { result ≤ 1 }
-{
-    if on { 1 } else { 0 }
 }
 
 impl Look {
@@ -229,29 +250,37 @@ impl Look {
     };
 
     // White on black in a subtitle's height.
+    #[tactic(auto, unfolding(crate::specs::Looks::white_on_black))]
     pub fn white_on_black(double: bool) -> Look
         ensures { result ≡ white_on_black double }
     {
-        let mut look = Look::WHITE_ON_BLACK;
-        look.double = double;
-        look
+        Look {
+            double,
+            ..Look::WHITE_ON_BLACK
+        }
     }
 
+    #[tactic(auto, unfolding(crate::specs::Looks::pack))]
     pub fn pack(self) -> u16
         ensures { result ≡ pack self }
     {
         let colours = 8 * (self.background as u16) + self.colour as u16;
-        256 * bit(self.italics) + 128 * bit(self.underline) + 64 * bit(self.double) + colours
+        256 * u16::from(self.italics)
+            + 128 * u16::from(self.underline)
+            + 64 * u16::from(self.double)
+            + colours
     }
 
     // Underline, height and background of this look, italics and colour of the other.
+    #[tactic(auto, unfolding(crate::specs::Looks::blend))]
     pub fn blend(self, source: Look) -> Look
         ensures { result ≡ blend self source }
     {
-        let mut look = self;
-        look.italics = source.italics;
-        look.colour = source.colour;
-        look
+        Look {
+            italics: source.italics,
+            colour: source.colour,
+            ..self
+        }
     }
 
     // Whether two looks are equal in what the cells of a span share.
@@ -270,12 +299,14 @@ impl Look {
         (self.italics == other.italics) & (self.colour == other.colour)
     }
 
+    #[tactic(auto, unfolding(crate::specs::Looks::on_black))]
     pub fn on_black(self) -> bool
         ensures { result ≡ on_black self }
     {
         self.background == Look::BLACK
     }
 
+    #[tactic(auto, unfolding(crate::specs::Looks::unpack))]
     pub fn unpack(n: u16) -> Look
         ensures { result ≡ unpack n }
     {
@@ -290,10 +321,10 @@ impl Look {
 }
 
 // Rows of a subtitle and lines of the screen are separate counts, never added.
-#[derive(Clone, Copy)]
+#[derive(Clone, Copy, PartialEq, Eq)]
 pub struct Rows(pub u32);
 
-#[derive(Clone, Copy)]
+#[derive(Clone, Copy, PartialEq, Eq)]
 pub struct Lines(pub u64);
 
 impl Rows {

@@ -2,38 +2,22 @@
 
 #![tactic(auto)]
 
-ghost use Rattle.std.specs.Prelude.{◌≡◌, false, length, set};
+ghost use Rattle.std.specs.Prelude.{◌≡◌, false, length};
 ghost use Rattle.meaning.specs.Conversion.{answer, output};
 ghost use Rattle.laws.specs.Demands.{FewestSpans};
 ghost use Rattle.output.specs.Output.{stored};
 ghost use Rattle.reasons.specs.Explained.{Told};
-ghost use Rattle.meaning.specs.Reasons.{reason};
+ghost use Rattle.meaning.specs.Answers.{numbers_of};
+ghost use Rattle.meaning.specs.Reasons.{reason, reason_numbers};
 ghost use Rattle.store.specs.Stores.{check_of};
 ghost use Rattle.streamed.specs.Checks.{opened_in, fed_in, closed_in, answer_in, is_running, opened_store, store_closed};
-ghost use Rattle.milursake.specs.Numbers.{numbers_of, presence_of, value_of, reason_numbers};
 
-use meaning::{Answer, FileByte, Reason};
-
-fn put_number(numbers: &mut [u64], i: usize, n: u64)
-    ensures { numbers.new ≡ set numbers.old i n }
+// As many of some numbers as there is room for.
+fn put_numbers(numbers: &mut [u64], values: &[u64])
+    ensures { numbers.new ≡ stored numbers.old 0 values.now }
 {
-    if i < numbers.len() {
-        numbers[i] = n;
-    }
-}
-
-// The answer's numbers in document 01's order, as many as there is room for.
-fn put_answer(numbers: &mut [u64], a: Answer)
-    ensures { numbers.new ≡ stored numbers.old 0 (numbers_of a) }
-{
-    put_number(numbers, 0, a.number);
-    put_number(numbers, 1, a.place);
-    put_number(numbers, 2, a.length);
-    put_number(numbers, 3, a.subtitles);
-    put_number(numbers, 4, a.comments);
-    put_number(numbers, 5, a.continuations);
-    put_number(numbers, 6, a.users);
-    put_number(numbers, 7, a.spans);
+    let n = numbers.len().min(values.len());
+    numbers[..n].copy_from_slice(&values[..n]);
 }
 
 // For callers in C and Rust: the refusal's number, or 0. As much of the answer as `numbers` has room for is stored there.
@@ -50,42 +34,8 @@ pub extern "C" fn milursake_convert(
     ensures fewest { result ≡ 0 → FewestSpans mode file.now (answer mode file.now (length out.old)) out.new }
 {
     let a = convert::convert(file, mode, out);
-    put_answer(numbers, a);
+    put_numbers(numbers, &<[u64; 8]>::from(a));
     a.number
-}
-
-// 1 for a byte, 0 for none.
-fn presence(byte: FileByte) -> u64
-    ensures { result ≡ presence_of byte }
-{
-    match byte {
-        FileByte::Absent => 0,
-        FileByte::Present(_) => 1,
-    }
-}
-
-// The byte, 0 for none.
-fn value(byte: FileByte) -> u64
-    ensures { result ≡ value_of byte }
-{
-    match byte {
-        FileByte::Absent => 0,
-        FileByte::Present(b) => b as u64,
-    }
-}
-
-// The numbers of a reason, as many as there is room for.
-fn put_reason(numbers: &mut [u64], r: Reason)
-    ensures { numbers.new ≡ stored numbers.old 0 (reason_numbers r) }
-{
-    let byte = r.byte;
-    let presence = presence(byte);
-    let value = value(byte);
-    put_number(numbers, 0, r.number);
-    put_number(numbers, 1, r.block);
-    put_number(numbers, 2, r.offset);
-    put_number(numbers, 3, presence);
-    put_number(numbers, 4, value);
 }
 
 // Why a file is refused, for a buffer of `room` bytes: the refusal's number, or 0. As many as `numbers` has room for of number, block,
@@ -97,7 +47,7 @@ pub extern "C" fn milursake_explain(file: &[u8], mode: u64, room: u64, numbers: 
     ensures told { Told mode file.now room (reason mode file.now room) }
 {
     let r = explain::explain(file, mode, room as usize);
-    put_reason(numbers, r);
+    put_numbers(numbers, &<[u64; 5]>::from(r));
     r.number
 }
 
@@ -128,6 +78,6 @@ pub extern "C" fn milursake_check_close(store: &mut [u8], numbers: &mut [u64]) -
     ensures store { store.new ≡ store_closed store.old }
 {
     let a = streamed::close_check(store);
-    put_answer(numbers, a);
+    put_numbers(numbers, &<[u64; 8]>::from(a));
     a.number
 }

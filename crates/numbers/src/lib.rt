@@ -2,10 +2,11 @@
 
 #![tactic(auto)]
 
-ghost use Rattle.std.specs.Prelude.{◌≡◌, ◌+◌, ◌*◌, ◌/◌, ◌%◌, ◌<◌, ◌≤◌, length, drop};
-ghost use Rattle.meaning.specs.Document.{digits, without_zeros, decimal};
-ghost use Rattle.output.specs.Output.{Wrote};
-ghost use Rattle.numbers.specs.Units.{taken_off};
+ghost use Rattle.std.specs.Prelude.{◌≡◌, ◌+◌, ◌*◌, ◌/◌, ◌%◌, ◌<◌, ◌≤◌};
+ghost use Rattle.meaning.specs.Document.{digits, decimal};
+ghost use Rattle.output.specs.Output.{Put};
+
+use output::Writer;
 
 // A digit, and what is left of the number behind it.
 #[derive(Clone, Copy)]
@@ -14,17 +15,23 @@ struct Leading {
     rest: u32,
 }
 
-// Some units are taken off what is left if they go, and counted in the digit.
-fn take_off(l: Leading, units: u8, size: u32) -> Leading
-    requires { l.digit + units < 256 }
-    ensures { (result ≡ taken_off l units size) × (result.digit ≤ l.digit + units) }
-{
-    if l.rest < size {
-        return l;
-    }
-    Leading {
-        digit: l.digit + units,
-        rest: l.rest - size,
+impl Leading {
+    ghost use Rattle.numbers.specs.Units.{taken_off};
+
+    // Some units are taken off what is left if they go, and counted in the digit.
+    #[tactic(auto, unfolding(crate::specs::Units::taken_off))]
+    fn take_off(self, units: u8, size: u32) -> Leading
+        requires { self.digit + units < 256 }
+        ensures taken { result ≡ taken_off self units size }
+        ensures small { result.digit ≤ self.digit + units }
+    {
+        if self.rest < size {
+            return self;
+        }
+        Leading {
+            digit: self.digit + units,
+            rest: self.rest - size,
+        }
     }
 }
 
@@ -32,26 +39,28 @@ fn take_off(l: Leading, units: u8, size: u32) -> Leading
 // back into a division.
 fn leading_digit(n: u32, unit: u32) -> Leading
     requires { (n < 10 * unit) × (unit ≤ 10000) }
-    ensures { (result.digit ≡ 48 + n / unit) × (result.rest ≡ n % unit) }
+    ensures digit { result.digit ≡ 48 + n / unit }
+    ensures rest { result.rest ≡ n % unit }
 {
-    let l = Leading {
+    let none = Leading {
         digit: b'0',
         rest: n,
     };
     if n < unit {
-        return l;
+        return none;
     }
-    let l = take_off(l, 8, 8 * unit);
-    let l = take_off(l, 4, 4 * unit);
-    let l = take_off(l, 2, 2 * unit);
-    take_off(l, 1, unit)
+    none.take_off(8, 8 * unit)
+        .take_off(4, 4 * unit)
+        .take_off(2, 2 * unit)
+        .take_off(1, unit)
 }
 
 // The last five digits of a number; a u16 has no more.
+#[tactic(auto, using(crate::proofs::Digits::five))]
 fn five_digits(n: u16) -> [u8; 5]
     ensures { result ≡ digits 5 n }
 {
-    let ten_thousands = leading_digit(n as u32, 10000);
+    let ten_thousands = leading_digit(u32::from(n), 10000);
     let thousands = leading_digit(ten_thousands.rest, 1000);
     let hundreds = leading_digit(thousands.rest, 100);
     let tens = leading_digit(hundreds.rest, 10);
@@ -64,23 +73,15 @@ fn five_digits(n: u16) -> [u8; 5]
     ]
 }
 
-// The last k digits. Past the buffer's end they are only counted.
-fn put_last_digits(out: &mut [u8], at: usize, n: u16, k: usize) -> usize
-    requires { k ≤ 5 }
-    ensures { Wrote out.old at (digits k n) out.new result }
+// The last two digits. Past the buffer's end they are only counted.
+pub fn put_digits2(w: &mut Writer, n: u8)
+    ensures { Put w.old (digits 2 n) w.new }
 {
-    if out.len() <= at {
-        return output::after(at, k);
+    if w.out.len() <= w.at {
+        w.at = output::after(w.at, 2);
+        return;
     }
-    let all = five_digits(n);
-    let from = 5 - k;
-    output::put(out, at, &all[from..])
-}
-
-pub fn put_digits2(out: &mut [u8], at: usize, n: u8) -> usize
-    ensures { Wrote out.old at (digits 2 n) out.new result }
-{
-    put_last_digits(out, at, n as u16, 2)
+    w.put(&five_digits(u16::from(n))[3..]);
 }
 
 // The last decimal digit of a number.
@@ -90,34 +91,21 @@ fn digit(n: usize) -> u8
     (48 + n % 10) as u8
 }
 
-// For any number; the subtraction above takes a u16.
-pub fn put_digits3(out: &mut [u8], at: usize, n: usize) -> usize
-    ensures { Wrote out.old at (digits 3 n) out.new result }
+// It divides, and no part of it is shared with put_digits2: it takes any number, and the subtraction above a u16.
+pub fn put_digits3(w: &mut Writer, n: usize)
+    ensures { Put w.old (digits 3 n) w.new }
 {
     let tens = n / 10;
-    let p = output::put_byte(out, at, digit(tens / 10));
-    let p = output::put_byte(out, p, digit(tens));
-    output::put_byte(out, p, digit(n))
+    w.put_byte(digit(tens / 10));
+    w.put_byte(digit(tens));
+    w.put_byte(digit(n));
 }
 
-// Where the digits of a number start, its leading zeros passed over.
-fn first_digit(all: &[u8]) -> usize
-    ensures { (result ≤ length all.now) × (drop result all.now ≡ without_zeros all.now) }
-{
-    let mut i = 0;
-    while i + 1 < all.len() {
-        if all[i] != b'0' {
-            return i;
-        }
-        i += 1;
-    }
-    i
-}
-
-pub fn put_decimal(out: &mut [u8], at: usize, n: u16) -> usize
-    ensures { Wrote out.old at (decimal n) out.new result }
+// The digits from the first that is no leading zero on; the last is always written.
+pub fn put_decimal(w: &mut Writer, n: u16)
+    ensures { Put w.old (decimal n) w.new }
 {
     let all = five_digits(n);
-    let from = first_digit(&all);
-    output::put(out, at, &all[from..])
+    let from = all[..4].iter().position(|&d| d != b'0').unwrap_or(4);
+    w.put(&all[from..]);
 }

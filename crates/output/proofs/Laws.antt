@@ -1,15 +1,16 @@
 -- The laws of writing into a lent buffer: writes one after the other are one write, and what it leaves there.
 -- Assumes nothing.
 use mathlib.Core.Path.{◌≡◌, refl, sym, ap, ◌∙◌}
-use mathlib.Core.List.{List, [], ◌∷◌, ◌++◌, append-nil, flat_map}
+use mathlib.Core.List.{List, [], ◌∷◌, ◌++◌, append-nil, append_assoc, flat_map}
 use Prim.Native.Nat.{ℕ, suc, ◌+◌, ◌-◌, ◌<◌, ◌≤◌, ◌^◌, min}
 use native.Mathlib.Nat.{add-zero, add-suc, suc-add}
 use native.Mathlib.Omega.{arith}
-use lib.ListN.{length, set, take, drop, get_or, length-append, length-set, drop_of_length-le}
-use lib.Seq.{set_out, length-sets, sets-eq, drop-cons}
+use lib.ListN.{length, set, take, drop, get_or, length-append, length-set, drop_of_length-le, take-append-drop}
+use lib.Seq.{set_out, length-sets, sets-eq, drop-cons, drop-drop, length-take-le}
 use Rattle.meaning.proofs.Logic.{by_le}
 use Rattle.meaning.proofs.ListLaws.{join_append}
-use Rattle.output.specs.Output.{stored, past, Wrote}
+use Rattle.output.specs.declared.Writer.{Writer}
+use Rattle.output.specs.Output.{stored, past, Wrote, Put}
 
 pub length-stored : (buf : List ℕ) (at : ℕ) (xs : List ℕ) → length (stored buf at xs) ≡ length buf
 unfolding stored
@@ -90,13 +91,59 @@ pub wrote-more :
 unfolding flat_map
 wrote-more f xs x w v = rw (join_append f xs (x ∷ []), append-nil (f x)) (w ⨟ v)
 
+-- what fits is stored, and the rest changes nothing
+stored_part :
+    (buf : List ℕ) (at : ℕ) (xs : List ℕ) (a n : ℕ) → a ≡ min at (length buf) → n ≡ min (length xs) (length buf - a)
+    → stored buf at xs ≡ stored buf a (take n xs)
+stored_part buf at xs a n e f =
+    by_le at (length buf)
+    (λ h.
+    let z : a ≡ at = omega arith in
+    let size : length (take n xs) ≡ n = length-take-le n xs (omega arith) in
+    let rest : stored (stored buf at (take n xs)) (at + n) (drop n xs) ≡ stored buf at (take n xs) =
+    stored_cut (stored buf at (take n xs)) at xs n (rw length-stored (omega arith)) in
+    rw z (ap (stored buf at) (sym (take-append-drop n xs)) ∙ stored-append buf at (take n xs) (drop n xs) ∙ rw size rest))
+    (λ h. stored-out buf at xs (omega arith) ∙ sym (stored-out buf a (take n xs) (omega arith)))
+
 -- where there is room, the bytes stand between what was before and what was after
 pub stored-fits : (buf : List ℕ) (at : ℕ) (xs : List ℕ) → at + length xs ≤ length buf → stored buf at xs ≡ take at buf ++ xs ++ drop (at + length xs) buf
 unfolding stored
 stored-fits buf at xs h = sets-eq xs buf at h
+
+-- so the bytes that fit may be copied at once, in the place of a part of the buffer
+pub stored-copied :
+    (buf : List ℕ) (at : ℕ) (xs : List ℕ) (a n k : ℕ) {ys : List ℕ} → a ≡ min at (length buf) → n ≡ min (length xs) (length buf - a) → k ≡ n
+    → ys ≡ take n xs → take a buf ++ (ys ++ drop k (drop a buf)) ≡ stored buf at xs
+stored-copied buf at xs a n k e f g h =
+    let size : length (take n xs) ≡ n = length-take-le n xs (omega arith) in
+    rw (g, h, drop-drop)
+    (sym (stored_part buf at xs a n e f ∙ stored-fits buf a (take n xs) (omega (arith, size)) ∙ rw (size, append_assoc)))
 
 -- a write from 0 that fits leaves its bytes, and then what stood behind them
 pub wrote-placed : {buf b1 xs : List ℕ} {r : ℕ} → Wrote buf 0 xs b1 r → length xs ≤ length buf → b1 ≡ xs ++ drop (length xs) buf
 wrote-placed {buf} {b1} {xs} w h =
     let z : 0 + length xs ≡ length xs = omega arith in
     w.held ∙ stored-fits buf 0 xs (omega arith) ∙ rw z
+
+-- what a writer puts one after the other. Nested to the right as well
+infixr 50 ◌▸◌
+pub ◌▸◌ : {w w1 w2 : Writer} {xs ys : List ℕ} → Put w xs w1 → Put w1 ys w2 → Put w (xs ++ ys) w2
+p ▸ q = record { wrote = p.wrote ⨟ q.wrote; same = q.same ∙ p.same }
+
+pub put_as : {w w1 : Writer} {xs ys : List ℕ} → ys ≡ xs → Put w xs w1 → Put w ys w1
+put_as e p = rw e p
+
+pub put_nothing : (w : Writer) → length w.out.now < 2 ^ 64 → w.at < 2 ^ 64 → Put w [] w
+put_nothing w h k = record { wrote = wrote_nothing w.out.now w.at h k; same = refl }
+
+-- past the end of the buffer only the position counts
+pub put-out :
+    (w : Writer) (xs : List ℕ) {r : ℕ} → length w.out.now ≤ w.at → length w.out.now < 2 ^ 64 → r ≡ past w.at (length xs)
+    → Put w xs (record { out = w.out; at = r })
+put-out w xs h k e = rw e (record { wrote = wrote-out w.out.now w.at xs h k; same = refl })
+
+-- one item more, as for bytes written
+pub put-more :
+    {A : Type 0} (f : A → List ℕ) (xs : List A) (x : A) {w w1 w2 : Writer} → Put w (flat_map f xs) w1 → Put w1 (f x) w2
+    → Put w (flat_map f (xs ++ x ∷ [])) w2
+put-more f xs x p q = record { wrote = wrote-more f xs x p.wrote q.wrote; same = q.same ∙ p.same }

@@ -2,6 +2,7 @@
 -- Assumes nothing.
 use Rattle.std.specs.Prelude.{◌≡◌, ℕ, ◌+◌, ◌<◌, ◌^◌, min, List, length}
 use Rattle.std.proofs.lemmas.List.Edits.{sets}
+use Rattle.output.specs.declared.Writer.{Writer}
 
 -- a buffer with bytes stored one by one from an index on; those past its end are cut
 unfoldable pub stored : List ℕ → ℕ → List ℕ → List ℕ
@@ -17,3 +18,8 @@ pub record Wrote (buf : List ℕ) (at : ℕ) (xs buf' : List ℕ) (r : ℕ) : Ty
   pub held : buf' ≡ stored buf at xs
   pub next : r ≡ past at (length xs)
   pub room : length buf < 2 ^ 64
+
+-- a writer wrote xs, and has the buffer that it had
+pub record Put (w : Writer) (xs : List ℕ) (w' : Writer) : Type 0 where
+  pub wrote : Wrote w.out.now w.at xs w'.out.now w'.at
+  pub same : w'.out.ghost_name ≡ w.out.ghost_name

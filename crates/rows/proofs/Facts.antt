@@ -22,7 +22,7 @@ use Rattle.rows.specs.declared.RowScan.{RowScan}
 use Rattle.rows.specs.declared.TextFacts.{TextFacts}
 use Rattle.rows.specs.declared.TextScan.{TextScan}
 use Rattle.rows.proofs.FirstRow.{rows_after}
-use Rattle.rows.specs.Scanning.{count_limit, facts_of_row, with_end, facts_of_rows, first_failed, rule_of}
+use Rattle.rows.specs.Scanning.{count_limit, facts_of_row, with_end, facts_of_rows, number_of, first_failed, rule_of}
 use Rattle.rows.specs.Scanned.{Scanned, row_at, TextScanned}
 use Rattle.rows.proofs.Laws.{rows-first}
 use Rattle.rows.proofs.Gathered.{capped}
@@ -53,8 +53,8 @@ lines_capped end vp h double n =
 -- the number of the rule that a text breaks, by the tests
 rule-number :
     (f : Format) (place vp : ℕ) (s : List ℕ)
-    → (text_rule f place vp s).number ≡ first_failed (all (is_listed f.teletext) (tokens s)) (heights_right f.mode (tokens s)) (rows_fit f vp (tokens s))
-unfolding text_rule text_rules first_broken no_refusal first_failed
+    → (text_rule f place vp s).number ≡ number_of (first_failed (all (is_listed f.teletext) (tokens s)) (heights_right f.mode (tokens s)) (rows_fit f vp (tokens s)))
+unfolding text_rule text_rules first_broken no_refusal number_of first_failed
 rule-number f place vp s =
     by_test (all (is_listed f.teletext) (tokens s))
     (λ a.
@@ -89,18 +89,18 @@ double_scanned k = ap (λ (f : RowFacts). f.height) k.facts
 -- the row that a scan tells of
 pub row_scanned :
     {teletext : Bool} {s : List ℕ} {start : ℕ} {r : RowScan} → Scanned teletext s start r
-    → with_end r.facts r.ended r.next ≡ row_at s start
+    → with_end r.facts r.after ≡ row_at s start
 unfolding row_at facts_of_row is_short
 row_scanned {s = s} {start} k =
-    rw (k.facts, k.ended, k.next, capped count_limit (length (keep takes_cell (first_row (tokens (drop start s))))) row_limit (omega arith))
+    rw (k.facts, k.after, capped count_limit (length (keep takes_cell (first_row (tokens (drop start s))))) row_limit (omega arith))
 
 -- what the two scans tell is the rule
 pub rule_scanned :
     {s : List ℕ} (f : Format) (vp : ℕ) {first : RowScan} {scan : TextScan} → f.screen.end < count_limit → Scanned f.teletext s 0 first
     → TextScanned f.teletext s (eqb f.mode 2 && first.facts.height) scan
-    → rule_of scan.facts first.facts.height scan.even f vp ≡ (text_rule f 0 vp s).number
+    → number_of (rule_of scan.facts first.facts.height scan.even f vp) ≡ (text_rule f 0 vp s).number
 unfolding breaks_paired
 rule_scanned {s} f vp {first} {scan} h k t =
     let d = double_scanned k in
     let u : TextScanned f.teletext s (eqb f.mode 2 && is_double (tokens s)) scan = rw d at t in
-    rw (d, u.even, u.facts) (rule-right f vp h (tokens s)) ∙ sym (rule-number f 0 vp s)
+    rw (d, u.even, u.facts) (ap number_of (rule-right f vp h (tokens s))) ∙ sym (rule-number f 0 vp s)

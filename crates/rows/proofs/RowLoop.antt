@@ -6,6 +6,7 @@ use mathlib.Core.Path.{◌≡◌, refl, sym, ap, ◌∙◌}
 use mathlib.Core.Bool.{Bool, true, false, ◌||◌}
 use mathlib.Core.List.{List, [], ◌∷◌, map, ◌++◌, append-nil, append_assoc}
 use lib.ListN.{length, take, drop, length-take, length-drop}
+use Rattle.std.specs.Prelude.{Some, None}
 use lib.Seq.{append_snoc}
 use Rattle.meaning.specs.declared.Token.{Token}
 use Rattle.meaning.specs.Codes.{is_row_end, is_control_of, is_double_height, tokens}
@@ -13,28 +14,26 @@ use Rattle.meaning.specs.Lists.{all, any, keep}
 use Rattle.meaning.specs.Rows.{is_double, first_row, height_first}
 use Rattle.meaning.proofs.ListLaws.{any-cons}
 use Rattle.charset.specs.declared.Reading.{Reading}
-use Rattle.charset.specs.Reading.{after_row_at}
-use Rattle.charset.proofs.Positions.{row-over}
+use Rattle.charset.specs.Reading.{readings_from}
 use Rattle.charset.proofs.Laws.{ReadOn, RunOn, tokens-end}
 use Rattle.charset.specs.Plain.{plain_token}
 use Rattle.rows.specs.declared.RowFacts.{RowFacts}
 use Rattle.rows.specs.Scanning.{facts_of_row, with_token, with_characters}
-use Rattle.rows.specs.Scanned.{is_ended, Scanned}
-use Rattle.rows.proofs.Laws.{first-none, ended-none, first-end, ended-end, first_more, ended-more, first_run, ended-run}
+use Rattle.rows.specs.Scanned.{row_end_after, Scanned}
+use Rattle.rows.proofs.Laws.{first-none, first-end, first_more, first_run}
 use Rattle.rows.proofs.Gathered.{with_token_lem, with_characters_lem}
-use Rattle.rows.proofs.RowEnds.{row-end, row_more}
+use Rattle.rows.proofs.RowEnds.{end-here, end_later, end_run, end-over}
 
 -- the row from `start` is what was read of it, and its rest from position i on; f has the facts of what was read
 pub record RowLeft (teletext : Bool) (s : List ℕ) (start : ℕ) (f : RowFacts) (i : ℕ) : Type 0 where
   pub past : List Token
   pub facts : f ≡ facts_of_row teletext past
   pub row : past ++ first_row (tokens (drop i s)) ≡ first_row (tokens (drop start s))
-  pub ended : is_ended (tokens (drop i s)) ≡ is_ended (tokens (drop start s))
-  pub next : after_row_at s i ≡ after_row_at s start
+  pub after : row_end_after s i ≡ row_end_after s start
 
 pub left-start : (teletext : Bool) (s : List ℕ) (start : ℕ) → RowLeft teletext s start (record { cells = 0; listed = true; height = false; character = false; ordered = true }) start
 unfolding facts_of_row all any keep height_first
-left-start teletext s start = record { past = []; facts = refl; row = refl; ended = refl; next = refl }
+left-start teletext s start = record { past = []; facts = refl; row = refl; after = refl }
 
 module _ {teletext : Bool} {s : List ℕ} {start i : ℕ} {f : RowFacts} (l : RowLeft teletext s start f i) where
   -- a token of the row
@@ -45,8 +44,7 @@ module _ {teletext : Bool} {s : List ℕ} {start i : ℕ} {f : RowFacts} (l : Ro
         past = l.past ++ (r.token ∷ []);
         facts = rw (g, l.facts) (sym (with_token_lem teletext l.past r.token));
         row = append_snoc l.past r.token (first_row ts) ∙ ap (λ (us : List Token). l.past ++ us) (sym (ap first_row o.first ∙ first_more r.token ts e)) ∙ l.row;
-        ended = sym (ap is_ended o.first ∙ ended-more r.token ts e) ∙ l.ended;
-        next = sym (row_more o e) ∙ l.next;
+        after = sym (end_later o e) ∙ l.after;
       }
 
   -- a run of plain codes, up to e
@@ -59,8 +57,7 @@ module _ {teletext : Bool} {s : List ℕ} {start i : ℕ} {f : RowFacts} (l : Ro
         past = l.past ++ map plain_token cs;
         facts = g ∙ ap (with_characters f) n ∙ rw l.facts (sym (with_characters_lem teletext l.past cs));
         row = append_assoc l.past (map plain_token cs) (first_row ts) ∙ ap (λ (us : List Token). l.past ++ us) (sym (ap first_row o.first ∙ first_run ts cs)) ∙ l.row;
-        ended = sym (ap is_ended o.first ∙ ended-run ts cs) ∙ l.ended;
-        next = sym o.row ∙ l.next;
+        after = sym (end_run o) ∙ l.after;
       }
 
   -- nothing is left
@@ -68,24 +65,22 @@ module _ {teletext : Bool} {s : List ℕ} {start i : ℕ} {f : RowFacts} (l : Ro
   all_read e = l.facts ∙ ap (facts_of_row teletext) (sym (append-nil l.past) ∙ rw e at l.row)
 
   -- the row end
-  pub left_end : {r : Reading} → ReadOn s i r → is_row_end r.token ≡ true → Scanned teletext s start (record { facts = f; ended = true; next = r.next })
+  pub left_end : {r : Reading} → ReadOn s i r → is_row_end r.token ≡ true → Scanned teletext s start (record { facts = f; after = Some r.next })
   left_end {r} o e =
-      let ts = tokens (drop r.next s) in
       record {
-        facts = all_read (ap first_row o.first ∙ first-end r.token ts e);
-        ended = sym (ap is_ended o.first ∙ ended-end r.token ts e) ∙ l.ended;
-        next = sym (row-end o e) ∙ l.next;
+        facts = all_read (ap first_row o.first ∙ first-end r.token (tokens (drop r.next s)) e);
+        after = sym (end-here o e) ∙ l.after;
       }
 
   -- the end of the text
-  pub left_over : length s ≤ i → Scanned teletext s start (record { facts = f; ended = false; next = i })
-  left_over h =
-      let t = tokens-end s i h in
-      record {
-        facts = all_read (ap first_row t ∙ first-none);
-        ended = sym (ap is_ended t ∙ ended-none) ∙ l.ended;
-        next = sym (row-over s i h) ∙ l.next;
-      }
+  pub left_over : length s ≤ i → Scanned teletext s start (record { facts = f; after = None })
+  left_over h = record { facts = all_read (ap first_row (tokens-end s i h) ∙ first-none); after = sym (end-over s i h) ∙ l.after }
+
+-- the same, with the readings that are left
+pub record RowRest (teletext : Bool) (s : List ℕ) (start : ℕ) (f : RowFacts) (left : List (ℕ × Reading)) : Type 0 where
+  pub at : ℕ
+  pub readings : left ≡ readings_from s at
+  pub row : RowLeft teletext s start f at
 
 -- the rest of the first row from position i tells whether the text is double height
 pub record HeightLeft (s : List ℕ) (i : ℕ) : Type 0 where

@@ -1,6 +1,6 @@
 -- What the rules 13 to 15 need to know of a row and of all rows, gathered from the left.
 -- Assumes nothing.
-use Rattle.std.specs.Prelude.{ℕ, ◌+◌, min, Bool, cond, not, ◌&&◌, ◌||◌, List, ltb, leb, length}
+use Rattle.std.specs.Prelude.{ℕ, ◌+◌, min, Bool, cond, not, ◌&&◌, ◌||◌, List, ltb, leb, length, Option, Result, Ok, Err}
 use Rattle.meaning.specs.declared.Token.{Token}
 use Rattle.meaning.specs.declared.Format.{Format}
 use Rattle.meaning.specs.Lists.{all, any, keep}
@@ -9,6 +9,8 @@ use Rattle.meaning.specs.Rows.{height_first, row_limit, is_short, lines_of}
 use Rattle.rows.specs.declared.RowFacts.{RowFacts}
 use Rattle.rows.specs.declared.Row.{Row}
 use Rattle.rows.specs.declared.TextFacts.{TextFacts}
+use Rattle.rows.specs.declared.TextRule.{TextRule}
+use Rattle.rows.specs.declared.TextRule.TheVariants.{Codes, Heights, Fit}
 
 -- Cells and rows are counted up to it. It is above every limit that a rule sets, so no rule can tell such counts apart.
 abbrev pub count_limit : ℕ
@@ -48,8 +50,8 @@ with_characters f n =
     }
 
 -- a row by itself, with its end
-abbrev pub with_end : RowFacts → Bool → ℕ → Row
-with_end f ended next = record { short = leb f.cells row_limit; ended = ended; next = next }
+abbrev pub with_end : RowFacts → Option ℕ → Row
+with_end f after = record { short = leb f.cells row_limit; after = after }
 
 -- the facts of all rows
 unfoldable pub facts_of_rows : Bool → List (List Token) → TextFacts
@@ -73,12 +75,19 @@ with_row a f =
       rows = min (a.rows + 1) count_limit;
     }
 
--- the number of the first of the rules 13 to 15 that does not hold, 0 where all do
-unfoldable pub first_failed : Bool → Bool → Bool → ℕ
-first_failed listed heights fits = cond (not listed) 13 (cond (not heights) 14 (cond (not fits) 15 0))
+-- the number of the rule that is broken, 0 where none is
+unfoldable pub number_of : Result Unit TextRule → ℕ
+number_of (Ok u) = 0
+number_of (Err Codes) = 13
+number_of (Err Heights) = 14
+number_of (Err Fit) = 15
+
+-- the first of the rules that does not hold
+unfoldable pub first_failed : Bool → Bool → Bool → Result Unit TextRule
+first_failed listed heights fits = cond (not listed) (Err Codes) (cond (not heights) (Err Heights) (cond (not fits) (Err Fit) (Ok tt)))
 
 -- the rule that the facts of a text break
-unfoldable pub rule_of : TextFacts → Bool → Bool → Format → ℕ → ℕ
+unfoldable pub rule_of : TextFacts → Bool → Bool → Format → ℕ → Result Unit TextRule
 rule_of t double even f vp =
     first_failed t.listed (t.ordered && (double || not t.height) && even)
     (t.short && leb (vp + (lines_of double (record { 0 = t.rows })).0) f.screen.end)

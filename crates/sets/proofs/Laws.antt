@@ -1,87 +1,60 @@
 -- The step that a block makes, case by case, and what it brings.
 -- Assumes nothing.
-use Prim.Native.Nat.{ℕ, suc, ◌+◌, ◌-◌, ◌≤◌, ◌<◌}
+use Prim.Native.Nat.{ℕ, ◌+◌, ◌-◌, ◌≤◌}
+use native.Mathlib.Numerals.{add-one}
 use native.Mathlib.Omega.{arith}
 use mathlib.Core.Path.{◌≡◌, refl, sym, ◌∙◌}
 use mathlib.Core.Bool.{Bool, true, false, ◌||◌}
-use mathlib.Core.List.{List, ◌∷◌, ◌++◌, append_assoc}
+use mathlib.Core.List.{List, ◌++◌, append_assoc}
 use mathlib.Core.Option.{some}
 use lib.Dec.{leb, eqb}
-use lib.ListN.{length, take, length-append}
-use lib.Seq.{take_at, length-take-le}
-use borrow.Author.Tests.{eq-eqb, ne_eqb, leb-true, leb-false, le-leb, lt-leb}
+use lib.ListN.{length, take, drop, length-append}
+use lib.Seq.{take_at, take_all, length-take-le}
+use borrow.Author.Tests.{leb-true}
 use Rattle.meaning.specs.declared.Refusal.{Refusal}
 use Rattle.meaning.specs.declared.Header.{Header}
 use Rattle.meaning.specs.declared.Format.{Format}
-use Rattle.meaning.specs.Refusals.{no_refusal, is_good, first_broken, in_turn, turns}
+use Rattle.std.specs.Prelude.{Option, Some, None, Result, Ok}
+use Rattle.std.specs.Result.{result_and}
+use Rattle.meaning.specs.Refusals.{is_good, first_broken, kept, verdict}
 use Rattle.meaning.specs.Blocks.{ebn_at, header_of, block_text, first_block_rules}
 use Rattle.meaning.specs.Sets.{BlockSet, Event, unless, close_at_last, begins, opening, goes_on, agreement_rules, continuing, is_user, advance}
-use Rattle.meaning.specs.Sets.Event.{broken}
 use Rattle.meaning.proofs.Logic.{by_test}
-use Rattle.meaning.proofs.RefusalLaws.{in_turn_lem}
-use Rattle.output.specs.Output.{stored, past, Wrote}
-use Rattle.output.proofs.Laws.{stored-fits}
+use Rattle.meaning.proofs.RefusalLaws.{result_and_assoc, verdict_cons}
+use Rattle.output.specs.Output.{stored}
+use Rattle.output.proofs.Laws.{stored-fits, stored-copied}
 use Rattle.sets.specs.declared.Set.{Set}
-use Rattle.sets.specs.declared.Current.{Current}
-use Rattle.sets.specs.declared.Current.TheVariants.{Between, Open}
 use Rattle.sets.specs.declared.Sets.{Sets}
 use Rattle.sets.specs.declared.Step.{Step}
 use Rattle.sets.specs.declared.Step.TheVariants.{NoRoom, Pending}
 use Rattle.sets.specs.Assembling.{set_with, set_of, current_of, assembly_of, event_of, text_end, has_room, size_after, sized_set, sized_current, sized_sets, step_of, step_in, text_after}
 
--- rules that are kept, or not
-unless-good : (r : Refusal) (e : Event) → r.number ≡ 0 → unless r e ≡ e
-unfolding unless is_good
-unless-good r e h = rw (eq-eqb r.number 0 h, unless)
+-- what follows if no rule is broken, as a step
+unless_step : (n : ℕ) (r : Refusal) (e : Event) → step_of n (unless r e) ≡ result_and (verdict r) (step_of n e)
+unfolding unless verdict step_of
+unless_step n r e = by_test (is_good r) (λ g. rw (g, unless, verdict)) (λ g. rw (g, unless, verdict))
 
-unless-bad : (r : Refusal) (e : Event) → (r.number ≡ 0 → ⊥) → unless r e ≡ broken r
-unfolding unless is_good
-unless-bad r e h = rw (ne_eqb r.number 0 h, unless)
+-- a block where no set is open, by its rules as results in turn
+pub opening_step :
+    (f : Format) (place : ℕ) (h : Header) (text : List ℕ) (least n : ℕ)
+    → step_of n (opening f place h text least)
+    ≡ result_and (kept (eqb h.ebn 0 || eqb h.ebn 255) 7 place ebn_at)
+    (result_and (verdict (first_broken place (first_block_rules f least h)))
+    (step_of n (close_at_last (record { place = place; first = h; last = h.ebn; text = text }) (h.sn + 1))))
+unfolding opening begins
+opening_step f place h text least n =
+    rw (unless_step n _ _, verdict_cons place 7 ebn_at _ _ (omega arith), add-one) (result_and_assoc (kept (begins h.ebn) 7 place ebn_at) _ _)
 
--- a block where no set is open
-module _ (f : Format) (place : ℕ) (h : Header) (text : List ℕ) (least : ℕ) where
-  pub opening_wrong : (eqb h.ebn 0 || eqb h.ebn 255) ≡ false → opening f place h text least ≡ broken (record { number = 7; place = place; offset = ebn_at })
-  unfolding opening begins first_broken
-  opening_wrong e = rw (e, first_broken) (unless-bad _ _ (λ z. omega arith))
-
-  module _ {r : Refusal} (e : (eqb h.ebn 0 || eqb h.ebn 255) ≡ true) (g : r ≡ first_broken place (first_block_rules f least h)) where
-    rules : first_broken place ((7, ebn_at, begins h.ebn) ∷ first_block_rules f least h) ≡ r
-    unfolding first_broken begins
-    rules = rw (e, first_broken, g)
-
-    pub opening-broken : (r.number ≡ 0 → ⊥) → opening f place h text least ≡ broken r
-    unfolding opening
-    opening-broken z = rw rules (unless-bad r _ z)
-
-    pub opening-good : r.number ≡ 0 → opening f place h text least ≡ close_at_last (record { place = place; first = h; last = h.ebn; text = text }) (suc h.sn)
-    unfolding opening
-    opening-good z = rw rules (unless-good r _ z)
-
--- a block of the open set, by the tests of rule 7
-module _ (place : ℕ) (h : Header) (text : List ℕ) (s : BlockSet) (least : ℕ) {a : Bool} {q r : Refusal} (d : a ≡ goes_on s.last h.ebn) (e : q ≡ in_turn no_refusal place 7 ebn_at a) (e' : r ≡ turns place q (agreement_rules s.first h)) where
-  rule : first_broken place ((7, ebn_at, goes_on s.last h.ebn) ∷ agreement_rules s.first h) ≡ r
-  unfolding agreement_rules
-  rule = rw (e', e, d) (sym (in_turn_lem place _ (omega arith)))
-
-  pub continuing-broken : (r.number ≡ 0 → ⊥) → continuing place h text s least ≡ broken r
-  unfolding continuing
-  continuing-broken z = rw rule (unless-bad r _ z)
-
-  pub continuing-good :
-      r.number ≡ 0
-      → continuing place h text s least ≡ close_at_last (record { place = s.place; first = s.first; last = h.ebn; text = s.text ++ text }) least
-  unfolding continuing
-  continuing-good z = rw rule (unless-good r _ z)
-
--- the test of `has_room`
-pub room-none : (room at n : ℕ) → room < at → false ≡ leb (at + n) room
-room-none room at n h = sym (lt-leb (at + n) room (omega arith))
-
-pub room_after : (room at n : ℕ) → at ≤ room → leb n (room - at) ≡ leb (at + n) room
-room_after room at n h =
-    by_test (leb (at + n) room)
-    (λ e. rw e (le-leb n (room - at) (omega (arith, leb-true (at + n) room e))))
-    (λ e. rw e (lt-leb n (room - at) (omega (arith, leb-false (at + n) room e))))
+-- a block of the open set, by its rules as results in turn
+pub continuing_step :
+    (place : ℕ) (h : Header) (text : List ℕ) (s : BlockSet) (least n : ℕ)
+    → step_of n (continuing place h text s least)
+    ≡ result_and (kept (goes_on s.last h.ebn) 7 place ebn_at)
+    (result_and (verdict (first_broken place (agreement_rules s.first h)))
+    (step_of n (close_at_last (record { place = s.place; first = s.first; last = h.ebn; text = s.text ++ text }) least)))
+unfolding continuing
+continuing_step place h text s least n =
+    rw (unless_step n _ _, verdict_cons place 7 ebn_at _ _ (omega arith)) (result_and_assoc (kept (goes_on s.last h.ebn) 7 place ebn_at) _ _)
 
 -- a text stored behind another that stands at the front
 front-joined : (buf xs : List ℕ) (at : ℕ) → at + length xs ≤ length buf → take (at + length xs) (stored buf at xs) ≡ take at buf ++ xs
@@ -114,31 +87,31 @@ module _ (n : ℕ) (text : List ℕ) where
   brought-continuing place h part s least e = brought-unless _ _ (brought_closing _ _ e)
 
 -- the state is told by what it stands for and by the size of its text
-sized_current_lem : (c : Current) (text : List ℕ) → sized_current (text_end c) (current_of c text) ≡ c
+sized_current_lem : (c : Option Set) (text : List ℕ) → sized_current (text_end c) (current_of c text) ≡ c
 unfolding sized_current sized_set current_of set_of set_with text_end
-sized_current_lem Between text = refl
-sized_current_lem (Open s) text = refl
+sized_current_lem None text = refl
+sized_current_lem (Some s) text = refl
 
 sized_same : (s : Sets) (text : List ℕ) → sized_sets (text_end s.current) (assembly_of s text) ≡ s
 unfolding sized_sets assembly_of
 sized_same s text = rw (sized_current_lem s.current text)
 
 -- and stands for the same with a text behind it
-current-kept : (c : Current) (text part : List ℕ) → text_end c + length part ≤ length text → current_of c (stored text (text_end c) part) ≡ current_of c text
+current-kept : (c : Option Set) (text part : List ℕ) → text_end c + length part ≤ length text → current_of c (stored text (text_end c) part) ≡ current_of c text
 unfolding current_of set_of text_end
-current-kept Between text part h = refl
-current-kept (Open s) text part h = rw (front_kept text part s.size h)
+current-kept None text part h = refl
+current-kept (Some s) text part h = rw (front_kept text part s.size h)
 
 -- a block, by what is read of it and by the room for its text
 module _ (f : Format) (place : ℕ) (b : List ℕ) (s : Sets) (text : List ℕ) {h : Header} (hd : h ≡ header_of b) {user : Bool} (us : user ≡ is_user h) where
   -- what is promised of a step and of the text buffer
-  abbrev Told : Step → List ℕ → Type 0
+  abbrev Told : Result Step Refusal → List ℕ → Type 0
   Told r text' = (r ≡ step_in f place b s text) × (text' ≡ text_after b s text)
 
   user-is : is_user (header_of b) ≡ user
   user-is = rw (sym hd) (sym us)
 
-  pub on-user : user ≡ true → Told (Pending s) text
+  pub on-user : user ≡ true → Told (Ok (Pending s)) text
   unfolding step_in size_after text_after has_room advance step_of
   on-user u = (rw (user-is, u, advance, sized_same s text), rw (user-is, u))
 
@@ -149,29 +122,36 @@ module _ (f : Format) (place : ℕ) (b : List ℕ) (s : Sets) (text : List ℕ) 
     room-is : leb (text_end s.current + length (block_text b)) (length text) ≡ room
     room-is = rw (sym te, sym pt) (sym hr)
 
-    pub on-full : room ≡ false → Told NoRoom text
+    pub on-full : room ≡ false → Told (Ok NoRoom) text
     unfolding step_in text_after has_room
     on-full e = (rw (other, room-is, e), rw (other, room-is, e))
 
-    module _ (fits : room ≡ true) {text' : List ℕ} {size : ℕ} (w : Wrote text at part text' size) where
+    -- the block's text copied into the part of the buffer that it fills
+    module _ (fits : room ≡ true) {copied : List ℕ} (q : copied ≡ part) where
+      abbrev text' : List ℕ
+      text' = take at text ++ (copied ++ drop (at + length part - at) (drop at text))
+
       stored-text : text' ≡ text_after b s text
       unfolding text_after has_room
-      stored-text = rw (other, room-is, fits, sym te, sym pt) w.held
+      stored-text =
+          let low : at + length part ≤ length text = leb-true _ _ (sym hr ∙ fits) in
+          stored-copied text at part at (length part) (at + length part - at) (omega arith) (omega arith) (omega arith) (q ∙ sym (take_all (length part) part (omega arith)))
+          ∙ rw (other, room-is, fits, sym te, sym pt)
 
-      size_is : size ≡ size_after b s
-      unfolding size_after past
-      size_is = rw (other, sym te, sym pt) (omega (arith, w.next, w.room, leb-true (at + length part) (length text) (sym hr ∙ fits)))
+      size_is : at + length part ≡ size_after b s
+      unfolding size_after
+      size_is = rw (other, sym te, sym pt)
 
-      told : (r : Step) → r ≡ step_of size (advance f place b (assembly_of s text)) → Told r text'
+      told : (r : Result Step Refusal) → r ≡ step_of (at + length part) (advance f place b (assembly_of s text)) → Told r text'
       unfolding step_in has_room
       told r g = (g ∙ rw (size_is, other, room-is, fits), stored-text)
 
-      pub on-first : s.current ≡ Between → (r : Step) → ((t : List ℕ) → r ≡ step_of size (opening f place h t s.least)) → Told r text'
+      pub on-first : s.current ≡ None → (r : Result Step Refusal) → ((t : List ℕ) → r ≡ step_of (at + length part) (opening f place h t s.least)) → Told r text'
       unfolding advance assembly_of current_of
       on-first e r g = told r (g part ∙ rw (other, advance, e, hd, pt))
 
       pub on-next :
-          {c : Set} → s.current ≡ Open c → (r : Step) → ((t new : List ℕ) → r ≡ step_of size (continuing place h new (set_with c t) s.least))
+          {c : Set} → s.current ≡ Some c → (r : Result Step Refusal) → ((t new : List ℕ) → r ≡ step_of (at + length part) (continuing place h new (set_with c t) s.least))
           → Told r text'
       unfolding advance assembly_of current_of set_of
       on-next {c} e r g = told r (g (take c.size text) part ∙ rw (other, advance, e, hd, pt))
@@ -183,13 +163,13 @@ module _ (f : Format) (place : ℕ) (b : List ℕ) (s : Sets) (text : List ℕ) 
   room u = leb-true _ _ (rw u at h)
 
   brought :
-      (c : Current) → s.current ≡ c → text_end c + length (block_text b) ≤ length text → is_user (header_of b) ≡ false
+      (c : Option Set) → s.current ≡ c → text_end c + length (block_text b) ≤ length text → is_user (header_of b) ≡ false
       → Brought (text_end c + length (block_text b)) (stored text (text_end c) (block_text b)) (advance f place b (assembly_of s text))
   unfolding advance assembly_of current_of set_of set_with text_end
-  brought Between e l u = rw (u, advance, e) (brought-opening _ _ _ _ _ _ _ (sym (front-joined text (block_text b) 0 l)))
-  brought (Open c) e l u = rw (u, advance, e) (brought-continuing _ _ _ _ _ _ _ (sym (front-joined text (block_text b) c.size l)))
+  brought None e l u = rw (u, advance, e) (brought-opening _ _ _ _ _ _ _ (sym (front-joined text (block_text b) 0 l)))
+  brought (Some c) e l u = rw (u, advance, e) (brought-continuing _ _ _ _ _ _ _ (sym (front-joined text (block_text b) c.size l)))
 
-  module _ {r : Step} {text' : List ℕ} (t : (r ≡ step_in f place b s text) × (text' ≡ text_after b s text)) where
+  module _ {r : Result Step Refusal} {text' : List ℕ} (t : (r ≡ step_in f place b s text) × (text' ≡ text_after b s text)) where
     pub step-event : some (advance f place b (assembly_of s text)) ≡ event_of r text'
     unfolding step_in size_after text_after advance step_of event_of
     step-event =

@@ -13,17 +13,17 @@ use Rattle.meaning.specs.Sets.{BlockSet, is_user}
 use Rattle.meaning.proofs.Logic.{by_test}
 use Rattle.meaning.proofs.Texts.{text-short}
 use Rattle.laws.proofs.Walk.{Short, Bounded}
-use Rattle.sets.specs.declared.Current.{Current}
-use Rattle.sets.specs.declared.Current.TheVariants.{Between, Open}
+use Rattle.std.specs.Prelude.{Option, Some, None}
+use Rattle.sets.specs.declared.Set.{Set}
 use Rattle.sets.specs.declared.Sets.{Sets}
 use Rattle.sets.specs.Assembling.{set_of, set_with, current_of, assembly_of, text_end, has_room, room_for}
 
 module _ (k : ℕ) (text : List ℕ) (l : room_for (k + 1) ≤ length text) where
   -- a set that is short leaves room for the text of another block
-  end_low : (c : Current) → ((s : BlockSet) → current_of c text ≡ some s → Short k s) → text_end c + text_size ≤ length text
+  end_low : (c : Option Set) → ((s : BlockSet) → current_of c text ≡ some s → Short k s) → text_end c + text_size ≤ length text
   unfolding current_of set_of set_with text_end
-  end_low Between h = omega arith
-  end_low (Open s) h = let g = h _ refl in omega (arith, g.size, g.last, g.few, length-take s.size text)
+  end_low None h = omega arith
+  end_low (Some s) h = let g = h _ refl in omega (arith, g.size, g.last, g.few, length-take s.size text)
 
   pub room-left : (b : List ℕ) (s : Sets) → Bounded k (assembly_of s text) → has_room b s text ≡ true
   unfolding has_room assembly_of

@@ -4,7 +4,7 @@
 #![tactic(auto)]
 
 ghost use Rattle.std.specs.Prelude.{◌≡◌, List, ℕ, ◌+◌, leb};
-ghost use Rattle.meaning.specs.Refusals.{turns};
+ghost use Rattle.meaning.specs.Refusals.{first_broken, verdict};
 ghost use Rattle.meaning.specs.Sets.{close_at_last, opening, goes_on, agreement_rules, continuing};
 ghost use Rattle.meaning.specs.Walk.{is_open};
 ghost use Rattle.sets.specs.Assembling.{set_with, assembly_of, text_end, step_of, step_in, text_after};
@@ -12,7 +12,7 @@ ghost use Rattle.sets.specs.Assembling.{set_with, assembly_of, text_end, step_of
 use meaning::{Format, Header, Refusal, TEXT_SIZE};
 
 // A set so far: the place and the header of its first block, the EBN of its last, and the size of its text.
-#[derive(Clone, Copy)]
+#[derive(Clone, Copy, Default, PartialEq, Eq)]
 pub struct Set {
     pub place: u64,
     pub first: Header,
@@ -20,17 +20,11 @@ pub struct Set {
     pub size: usize,
 }
 
-#[derive(Clone, Copy)]
-pub enum Current {
-    Between,
-    Open(Set),
-}
-
-// What is known after some blocks: the least SN that the next set may have, and the set that is not closed yet.
-#[derive(Clone, Copy)]
+// What is known after some blocks: the least SN that the next set may have, and the set that is not closed yet, if there is one.
+#[derive(Clone, Copy, PartialEq, Eq)]
 pub struct Sets {
     pub least: u32,
-    pub current: Current,
+    pub current: Option<Set>,
 }
 
 // The EBN of a set's last block.
@@ -51,141 +45,126 @@ impl Sets {
     // Before the first block.
     pub const NONE: Sets = Sets {
         least: 0,
-        current: Current::Between,
+        current: None,
     };
 
+    #[tactic(auto, unfolding(meaning::specs::Walk::is_open, crate::specs::Assembling::assembly_of, crate::specs::Assembling::current_of))]
     pub fn is_open(self) -> bool
         ensures { (text : List ℕ) → result ≡ is_open (assembly_of self text) }
     {
-        let current = self.current;
-        match current {
-            Current::Between => false,
-            Current::Open(_) => true,
-        }
+        self.current.is_some()
     }
 }
 
-// What one block brings: no room for its text, a broken rule, no closed set, or one.
-#[derive(Clone, Copy)]
+// What a block brings that breaks no rule: no room for its text, no closed set, or one.
+#[derive(Clone, Copy, PartialEq, Eq)]
 pub enum Step {
     NoRoom,
-    Broken(Refusal),
     Pending(Sets),
     Closed(Set, Sets),
 }
 
 // A set with one block more: EBN FFh closes it.
+#[tactic(auto, unfolding(meaning::specs::Sets::close_at_last, crate::specs::Assembling::set_with, crate::specs::Assembling::sized_set, crate::specs::Assembling::sized_current, crate::specs::Assembling::sized_sets, crate::specs::Assembling::step_of))]
 fn close_at_last(set: Set, least: u32) -> Step
-    ensures { (text : List ℕ) → result ≡ step_of set.size (close_at_last (set_with set text) least) }
+    ensures { (text : List ℕ) → Ok result ≡ step_of set.size (close_at_last (set_with set text) least) }
 {
     if set.last == LAST {
-        let sets = Sets {
-            least,
-            current: Current::Between,
-        };
-        return Step::Closed(set, sets);
+        let current = None;
+        return Step::Closed(set, Sets { least, current });
     }
-    let sets = Sets {
-        least,
-        current: Current::Open(set),
-    };
-    Step::Pending(sets)
+    let current = Some(set);
+    Step::Pending(Sets { least, current })
 }
 
 // A block where no set is open: EBN 00h or FFh, then the rules 8 to 12. Its text has the given size.
-fn opening(f: Format, place: u64, h: Header, size: usize, least: u32) -> Step
+#[tactic(auto, using(crate::proofs::Laws::opening_step), unfolding(crate::specs::Assembling::set_with))]
+fn opening(f: Format, place: u64, h: Header, size: usize, least: u32) -> Result<Step, Refusal>
     ensures { (text : List ℕ) → result ≡ step_of size (opening f place h text least) }
 {
-    let ebn = h.ebn;
-    if !((ebn == 0) | (ebn == LAST)) {
-        return Step::Broken(Refusal {
-            number: 7,
-            place,
-            offset: Header::EBN_AT as u64,
-        });
-    }
-    let rule = headers::first_block_rule(f, place, least, h);
-    if rule.number != 0 {
-        return Step::Broken(rule);
-    }
+    let begins = h.ebn == 0 || h.ebn == LAST;
+    Refusal::unless(begins, 7, place, Header::EBN_AT as u64)?;
+    headers::first_block_rule(f, place, least, h)?;
     let set = Set {
         place,
         first: h,
-        last: ebn,
+        last: h.ebn,
         size,
     };
-    close_at_last(set, h.sn as u32 + 1)
+    Ok(close_at_last(set, u32::from(h.sn) + 1))
 }
 
+#[tactic(auto, unfolding(meaning::specs::Sets::goes_on))]
 fn goes_on(last: u8, ebn: u8) -> bool
     ensures { result ≡ goes_on last ebn }
 {
-    (ebn == LAST) | ((ebn as u32 == last as u32 + 1) & ((ebn as usize) < Sets::NUMBERED))
+    ebn == LAST || u32::from(ebn) == u32::from(last) + 1 && usize::from(ebn) < Sets::NUMBERED
 }
 
 // All blocks of a set agree in SGN, SN and CF.
-fn agreement_rule(rule: Refusal, place: u64, first: Header, h: Header) -> Refusal
-    ensures { result ≡ turns place rule (agreement_rules first h) }
+#[tactic(auto, using(meaning::proofs::RefusalLaws::verdict_cons, meaning::proofs::RefusalLaws::verdict_one), unfolding(meaning::specs::Sets::agreement_rules))]
+fn agreement_rule(place: u64, first: Header, h: Header) -> Result<(), Refusal>
+    ensures { result ≡ verdict (first_broken place (agreement_rules first h)) }
 {
-    let rule = rule.or(place, 7, Header::SGN_AT as u64, h.sgn == first.sgn);
-    let rule = rule.or(place, 7, Header::SN_AT as u64, h.sn == first.sn);
-    rule.or(place, 7, Header::CF_AT as u64, h.cf == first.cf)
+    Refusal::unless(h.sgn == first.sgn, 7, place, Header::SGN_AT as u64)?;
+    Refusal::unless(h.sn == first.sn, 7, place, Header::SN_AT as u64)?;
+    Refusal::unless(h.cf == first.cf, 7, place, Header::CF_AT as u64)
 }
 
 // A block of the open set, with which the set's text has the given size.
-fn continuing(place: u64, h: Header, size: usize, set: Set, least: u32) -> Step
+#[tactic(auto, using(crate::proofs::Laws::continuing_step), unfolding(crate::specs::Assembling::set_with))]
+fn continuing(place: u64, h: Header, size: usize, set: Set, least: u32) -> Result<Step, Refusal>
     ensures { (text part : List ℕ) → result ≡ step_of size (continuing place h part (set_with set text) least) }
 {
-    let first = set.first;
     let goes_on = goes_on(set.last, h.ebn);
-    let rule = Refusal::NONE.or(place, 7, Header::EBN_AT as u64, goes_on);
-    let rule = agreement_rule(rule, place, first, h);
-    if rule.number != 0 {
-        return Step::Broken(rule);
-    }
-    let mut longer = set;
-    longer.last = h.ebn;
-    longer.size = size;
-    close_at_last(longer, least)
+    Refusal::unless(goes_on, 7, place, Header::EBN_AT as u64)?;
+    agreement_rule(place, set.first, h)?;
+    let longer = Set {
+        last: h.ebn,
+        size,
+        ..set
+    };
+    Ok(close_at_last(longer, least))
 }
 
 // Where a block's text goes: behind that of the open set, or to the front.
-fn text_end(current: Current) -> usize
+#[tactic(auto, unfolding(crate::specs::Assembling::text_end))]
+fn text_end(current: Option<Set>) -> usize
     ensures { result ≡ text_end current }
 {
-    match current {
-        Current::Between => 0,
-        Current::Open(set) => set.size,
-    }
+    current.map_or(0, |set| set.size)
 }
 
 fn has_room(room: usize, at: usize, n: usize) -> bool
     ensures { result ≡ leb (at + n) room }
 {
-    if room < at {
-        return false;
-    }
-    n <= room - at
+    room.checked_sub(at).is_some_and(|free| n <= free)
 }
 
 // One block: user data is passed over wherever it stands.
-pub fn advance(f: Format, place: u64, bytes: &[u8], text: &mut [u8], s: Sets) -> Step
+pub fn advance(
+    f: Format,
+    place: u64,
+    bytes: &[u8],
+    text: &mut [u8],
+    s: Sets,
+) -> Result<Step, Refusal>
     ensures step { result ≡ step_in f place bytes.now s text.old }
     ensures text { text.new ≡ text_after bytes.now s text.old }
 {
     let h = block::header_of(bytes);
     if h.is_user() {
-        return Step::Pending(s);
+        return Ok(Step::Pending(s));
     }
     let part = block::text_of(bytes);
-    let current = s.current;
-    let at = text_end(current);
+    let at = text_end(s.current);
     if !has_room(text.len(), at, part.len()) {
-        return Step::NoRoom;
+        return Ok(Step::NoRoom);
     }
-    let size = output::put(text, at, part);
-    match current {
-        Current::Between => opening(f, place, h, size, s.least),
-        Current::Open(set) => continuing(place, h, size, set, s.least),
+    let size = at + part.len();
+    text[at..size].copy_from_slice(part);
+    match s.current {
+        None => opening(f, place, h, size, s.least),
+        Some(set) => continuing(place, h, size, set, s.least),
     }
 }

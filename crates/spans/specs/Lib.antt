@@ -1,2 +1,1 @@
-pub mod Foregrounds
-pub mod Ranges
+pub mod Spans

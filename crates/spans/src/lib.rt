@@ -1,125 +1,125 @@
-// What is shown of the cells in two lent arrays: their range, and its spans.
+// What is shown of a row's cells, and its spans.
 
 #![tactic(auto)]
 
-ghost use Rattle.std.specs.Prelude.{◌≡◌, ◌+◌, ◌<◌, ◌≤◌, length};
-ghost use Rattle.meaning.specs.Lists.{take_while};
-ghost use Rattle.meaning.specs.Cells.{is_blank_on_black, trim_back};
-ghost use Rattle.cells.specs.Arrays.{packed_cell, cells_at};
-ghost use Rattle.spans.specs.Ranges.{cut, cells_to, shown_range, span_at};
+ghost use Rattle.std.specs.Prelude.{◌≡◌, length, take, drop};
+ghost use Rattle.std.specs.List.{prefix_len};
+ghost use Rattle.meaning.specs.Cells.{is_blank, is_blank_on_black, shown};
+ghost use Rattle.meaning.specs.Looks.{unpack};
+ghost use Rattle.meaning.specs.Spans.{fits, look_of};
+ghost use Rattle.cells.specs.Packed.{cell_of, cells_in};
 
+use cells::PackedCell;
 use meaning::Look;
-use output::least;
 
-mod joining;
-
-// The range of the shown cells.
-#[derive(Clone, Copy)]
-pub struct Shown {
-    pub start: usize,
-    pub end: usize,
+// An underlined space is no blank.
+#[tactic(auto, unfolding(meaning::specs::Cells::is_blank, meaning::specs::Glyphs::is_space))]
+fn is_blank(cell: PackedCell) -> bool
+    ensures { result ≡ is_blank (cell_of cell) }
+{
+    (cell.character == PackedCell::BLANK.character) & !Look::unpack(cell.look).underline
 }
 
-// Where a span ends, and its packed look.
+#[tactic(auto, unfolding(meaning::specs::Cells::is_blank_on_black))]
+fn is_blank_on_black(cell: PackedCell) -> bool
+    ensures { result ≡ is_blank_on_black (cell_of cell) }
+{
+    is_blank(cell) & Look::unpack(cell.look).on_black()
+}
+
+// The cells without the blanks on black at their start and end.
+pub fn shown(cells: &[PackedCell]) -> &[PackedCell]
+    ensures shown { cells_in result.now ≡ shown (cells_in cells.now) }
+    ensures place { result.now ≡ take (length (shown (cells_in cells.now))) (drop (prefix_len is_blank_on_black (cells_in cells.now)) cells.now) }
+{
+    let front = cells
+        .iter()
+        .take_while(|cell| is_blank_on_black(**cell))
+        .count();
+    let cells = &cells[front..];
+    let back = cells
+        .iter()
+        .rev()
+        .take_while(|cell| is_blank_on_black(**cell))
+        .count();
+    &cells[..cells.len() - back]
+}
+
+// The look of some cells as a span: that of the first, in the foreground of the first that is no blank. Blanks only count as
+// white and upright.
+fn look_of(cells: &[PackedCell]) -> Look
+    ensures { result ≡ look_of (cells_in cells.now) }
+{
+    let Some(first) = cells.first() else {
+        return Look::WHITE_ON_BLACK;
+    };
+    let foreground = cells
+        .iter()
+        .find(|cell| !is_blank(**cell))
+        .map_or(Look::WHITE_ON_BLACK, |cell| Look::unpack(cell.look));
+    Look::unpack(first.look).blend(foreground)
+}
+
+// Whether a cell can stand in a span of a packed look: one of that look, as most are; a blank, whatever its foreground.
+#[tactic(auto, unfolding(meaning::specs::Spans::fits))]
+fn fits(look: u16, cell: PackedCell) -> bool
+    ensures { result ≡ fits (unpack look) (cell_of cell) }
+{
+    if cell.look == look {
+        return true;
+    }
+    let own = Look::unpack(cell.look);
+    let look = Look::unpack(look);
+    own.shares(look) & (is_blank(cell) | own.agrees(look))
+}
+
+// The cells of a span, and its packed look.
 #[derive(Clone, Copy)]
-pub struct SpanRead {
-    pub end: usize,
+pub struct Span<'a> {
+    pub cells: &'a [PackedCell],
     pub look: u16,
 }
 
-fn is_blank_on_black(character: u32, look: u16) -> bool
-    ensures { result ≡ is_blank_on_black (packed_cell character look) }
-{
-    joining::is_blank(character, look) & Look::unpack(look).on_black()
+// The spans of cells, from the left, each as long as it can be.
+#[derive(Clone, Copy)]
+pub struct Spans<'a> {
+    cells: &'a [PackedCell],
 }
 
-// The first of n cells that is no blank on black, or n.
-fn first_shown(characters: &[u32], looks: &[u16], n: usize) -> usize
-    requires { (n ≤ length characters.now) × (n ≤ length looks.now) }
-    ensures { result ≡ length (take_while is_blank_on_black (cells_at characters.now looks.now 0 n)) }
-{
-    let mut i = 0;
-    while i < n {
-        if !is_blank_on_black(characters[i], looks[i]) {
-            return i;
+impl<'a> Spans<'a> {
+    ghost use Rattle.spans.specs.Spans.{spans_left, spans_in};
+
+    pub fn new(cells: &'a [PackedCell]) -> Spans<'a>
+        ensures { spans_left result ≡ spans_in cells.now }
+    {
+        Spans { cells }
+    }
+}
+
+impl<'a> Iterator for Spans<'a> {
+    ghost use Rattle.std.specs.Iterator.{item_count};
+    ghost use Rattle.spans.specs.Spans.{spans_left, GivesSpan};
+
+    type Item = Span<'a>;
+
+    ghost next_gives = { GivesSpan };
+
+    ghost remaining = { item_count spans_left };
+
+    fn next(&mut self) -> Option<Span<'a>> {
+        if self.cells.is_empty() {
+            return None;
         }
-        i += 1;
+        let look = look_of(self.cells).pack();
+        let length = self
+            .cells
+            .iter()
+            .take_while(|cell| fits(look, **cell))
+            .count();
+        let (cells, rest) = self.cells.split_at(length);
+        self.cells = rest;
+        // The foreground may be that of a cell after the span.
+        let look = look_of(cells).pack();
+        Some(Span { cells, look })
     }
-    i
-}
-
-// The index after the last of the cells from start up to n that is no blank on black, or start.
-fn end_shown(characters: &[u32], looks: &[u16], start: usize, n: usize) -> usize
-    requires { (start ≤ n) × (n ≤ length characters.now) × (n ≤ length looks.now) }
-    ensures { result ≡ start + length (trim_back (cells_to characters.now looks.now start n)) }
-{
-    let mut end = n;
-    while start < end {
-        let last = end - 1;
-        if !is_blank_on_black(characters[last], looks[last]) {
-            return end;
-        }
-        end = last;
-    }
-    end
-}
-
-// Both arrays have the cells below the result.
-fn cut_to(characters: &[u32], looks: &[u16], n: usize) -> usize
-    ensures { result ≡ cut characters.now looks.now n }
-{
-    least(n, least(characters.len(), looks.len()))
-}
-
-// The shown cells among the first n, as far as both arrays go.
-pub fn shown_range(characters: &[u32], looks: &[u16], n: usize) -> Shown
-    ensures { result ≡ shown_range (cells_at characters.now looks.now 0 (cut characters.now looks.now n)) }
-{
-    let n = cut_to(characters, looks, n);
-    let start = first_shown(characters, looks, n);
-    let end = end_shown(characters, looks, start, n);
-    Shown { start, end }
-}
-
-// A cell of the look that the foreground came from joins and changes nothing; most are such.
-fn span_from(characters: &[u32], looks: &[u16], start: usize, end: usize) -> SpanRead
-    requires { (start < end) × (end ≤ length characters.now) × (end ≤ length looks.now) }
-    ensures { result ≡ span_at start (cells_to characters.now looks.now start end) }
-{
-    let first = looks[start];
-    let mut fore = joining::foreground_with(joining::no_foreground(), characters[start], first);
-    let mut i = start + 1;
-    while i < end {
-        let look = looks[i];
-        if fore.blanks | (look != fore.look) {
-            let character = characters[i];
-            if !joining::is_joining(first, fore, character, look) {
-                return SpanRead {
-                    end: i,
-                    look: joining::span_look(first, fore.look),
-                };
-            }
-            fore = joining::foreground_with(fore, character, look);
-        }
-        i += 1;
-    }
-    SpanRead {
-        end: i,
-        look: joining::span_look(first, fore.look),
-    }
-}
-
-// The first span of the cells from start up to end, as far as both arrays go. Where there are none it is empty, white on
-// black.
-pub fn span_at(characters: &[u32], looks: &[u16], start: usize, end: usize) -> SpanRead
-    ensures { result ≡ span_at start (cells_to characters.now looks.now start (cut characters.now looks.now end)) }
-{
-    let end = cut_to(characters, looks, end);
-    if end <= start {
-        return SpanRead {
-            end: start,
-            look: Look::WHITE_ON_BLACK.pack(),
-        };
-    }
-    span_from(characters, looks, start, end)
 }

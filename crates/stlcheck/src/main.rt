@@ -3,7 +3,6 @@
 
 #![tactic(auto)]
 
-use meaning::Answer;
 use std::io;
 use std::io::Read;
 
@@ -11,14 +10,6 @@ const ROOM: u64 = 1099511627776;
 
 // What is read at once.
 const LUMP: usize = 65536;
-
-fn say_answer(rt: &impl Print, a: Answer) -> io::Result<()> {
-    println!(rt; "{}\n{}\n{}\n{}", a.number, a.place, a.length, a.subtitles)?;
-    println!(rt;
-        "{}\n{}\n{}\n{}",
-        a.comments, a.continuations, a.users, a.spans
-    )
-}
 
 // Feeds what is read next, and tells whether it was the last.
 fn feed_next<R: Read>(reader: &mut R, store: &mut [u8], lump: &mut [u8]) -> io::Result<bool> {
@@ -45,5 +36,8 @@ fn main(rt: HostRuntime) -> io::Result<()> {
     input::read_full(&mut stdin, &mut digit)?;
     streamed::open_check(&mut store, input::mode_of(digit[0]), ROOM);
     feed_input(&mut stdin, &mut store)?;
-    say_answer(&rt, streamed::close_check(&mut store))
+    for n in <[u64; 8]>::from(streamed::close_check(&mut store)) {
+        println!(rt; "{n}")?;
+    }
+    Ok(())
 }

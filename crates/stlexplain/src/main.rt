@@ -4,15 +4,7 @@
 #![tactic(auto)]
 
 use input::LIMIT;
-use meaning::FileByte;
 use std::io;
-
-fn say_byte(rt: &impl Print, byte: FileByte) -> io::Result<()> {
-    match byte {
-        FileByte::Absent => println!(rt; "0\n0"),
-        FileByte::Present(b) => println!(rt; "1\n{b}"),
-    }
-}
 
 fn main(rt: HostRuntime) -> io::Result<()> {
     let mut digit = [0u8; 1];
@@ -25,6 +17,8 @@ fn main(rt: HostRuntime) -> io::Result<()> {
         return println!(rt; "too long");
     }
     let r = explain::explain(&file[..n], input::mode_of(digit[0]), LIMIT);
-    println!(rt; "{}\n{}\n{}", r.number, r.block, r.offset)?;
-    say_byte(&rt, r.byte)
+    for n in <[u64; 5]>::from(r) {
+        println!(rt; "{n}")?;
+    }
+    Ok(())
 }

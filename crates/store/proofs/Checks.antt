@@ -14,6 +14,7 @@ use Rattle.output.specs.Output.{stored}
 use Rattle.words.specs.Words.{words_bytes}
 use Rattle.words.specs.Flags.{flags_bytes, flags_in}
 use Rattle.words.proofs.Laws.{words-length, flags_length, flags_kept}
+use Rattle.text.specs.declared.Tally.{Tally}
 use Rattle.checking.specs.declared.blocks.Pass.{Pass}
 use Rattle.checking.specs.Passing.{outcome_of}
 use Rattle.feeding.specs.Feeding.{with_gsi, with_part, with_walk}
@@ -84,11 +85,11 @@ module _ (store : List ℕ) (size : length store ≡ store_size) (s : State) whe
       )
 
   -- after whole blocks: the text of the open set was changed in its place, and the looks in use were written
-  pub check_walk : (store1 store2 text : List ℕ) (marks : List Bool) (n : ℕ) (w : Pass) → s.gsi ≤ gsi_size → store1 ≡ take text_at store ++ text
+  pub check_walk : (store1 store2 text : List ℕ) (marks : List Bool) (n : ℕ) (w : Pass) (t : Tally) → s.gsi ≤ gsi_size → store1 ≡ take text_at store ++ text
       → store2 ≡ stored store1 marks_at (flags_bytes marks) → length marks ≡ look_count
-      → check_in (with_pass s n w) store2 ≡ with_walk (check_in s store) n (outcome_of w text [] marks)
+      → check_in (with_pass s n w t) store2 ≡ with_walk (check_in s store) n (outcome_of w text (record { out = []; marks = marks; tally = t }))
   unfolding check_in
-  check_walk store1 store2 text marks n w g e f l =
+  check_walk store1 store2 text marks n w t g e f l =
       let xs = flags_bytes marks in
       let k : length xs ≡ look_count = flags_length marks ∙ l in
       let h : text_at ≤ length store = omega arith in

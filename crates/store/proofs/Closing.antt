@@ -5,7 +5,7 @@ use native.Mathlib.Omega.{arith}
 use mathlib.Core.Path.{◌≡◌, refl, ap, ap₂, ◌∙◌}
 use mathlib.Core.Bool.{true}
 use mathlib.Core.List.{List, [], ◌∷◌}
-use mathlib.Core.Option.{some}
+use Rattle.std.specs.Prelude.{Some}
 use lib.ListN.{length, get_or, drop}
 use borrow.Author.Tests.{eq-eqb}
 use Rattle.meaning.proofs.Logic.{and_true}
@@ -15,26 +15,29 @@ use Rattle.words.specs.Words.{word_size, words_bytes, words}
 use Rattle.words.proofs.Laws.{IsWord, words-kept, words-length}
 use Rattle.feeding.specs.Feeding.{Check, close}
 use Rattle.feeding.specs.Sound.{is_sound}
+use Rattle.store.specs.declared.Phase.{Phase}
+use Rattle.store.specs.declared.Phase.TheVariants.{Closed}
 use Rattle.store.specs.declared.State.{State}
 use Rattle.store.specs.Layout.{store_size, closed_phase, is_phase, numbers_in}
-use Rattle.store.specs.Numbers.{time_from, header_from, set_from, current_from, pass_from, state_from, with_phase}
+use Rattle.store.specs.Phases.{phase_number, phase_from, is_closed}
+use Rattle.store.specs.Numbers.{number_at, time_from, header_from, set_from, current_from, pass_from, state_from, with_phase}
 use Rattle.store.specs.Stores.{state_of, check_in, is_check, check_of, closed_store}
-use Rattle.store.proofs.Phases.{closed-number, closed-phase}
+use Rattle.store.proofs.Phases.{closed_phase_is, is_phase-number, phase_from-number}
 use Rattle.store.proofs.Places.{drop-after}
 use Rattle.store.proofs.Checks.{check_front}
 use Rattle.store.proofs.Stores.{check_size, check_sound, check_of_lem}
 
 -- the first number is read before all others
-other_numbers : (m n : ℕ) (ns : List ℕ) → state_from (n ∷ ns) ≡ with_phase (state_from (m ∷ ns)) n
+other_numbers : (p q : Phase) (m n : ℕ) (ns : List ℕ) → state_from q (n ∷ ns) ≡ with_phase (state_from p (m ∷ ns)) q
 unfolding state_from pass_from current_from set_from header_from time_from
-other_numbers m n ns = refl
+other_numbers p q m n ns = refl
 
 module _ (store : List ℕ) (size : length store ≡ store_size) where
   abbrev closed_now : List ℕ
   closed_now = closed_store store
 
   mark_words : All IsWord (closed_phase ∷ [])
-  mark_words = let h : IsWord closed_phase = omega (arith, closed-number) in cons h nil
+  mark_words = let h : IsWord closed_phase = omega (arith, closed_phase_is) in cons h nil
 
   closed_numbers : numbers_in closed_now ≡ closed_phase ∷ words 34 (drop word_size store)
   unfolding words
@@ -43,16 +46,25 @@ module _ (store : List ℕ) (size : length store ≡ store_size) where
       (ap (λ (l : List ℕ). get_or l 0 0) (words-kept store (closed_phase ∷ []) (omega arith) mark_words))
       (ap (words 34) (drop-after store 0 (words_bytes (closed_phase ∷ [])) word_size (omega (arith, words-length (closed_phase ∷ [])))))
 
-  pub close_state : state_of closed_now ≡ with_phase (state_of store) closed_phase
+  closed_phase_now : phase_from (number_at (numbers_in closed_now) 0) ≡ Closed
+  unfolding phase_number
+  closed_phase_now = rw closed_numbers (phase_from-number Closed)
+
+  pub close_state : state_of closed_now ≡ with_phase (state_of store) Closed
   unfolding words
-  close_state = ap state_from closed_numbers ∙ other_numbers _ closed_phase (words 34 (drop word_size store))
+  close_state =
+      ap₂ state_from closed_phase_now closed_numbers
+      ∙ other_numbers _ Closed _ closed_phase (words 34 (drop word_size store))
 
   pub close_check : check_in (state_of closed_now) closed_now ≡ close (check_in (state_of store) store)
-  unfolding check_in
+  unfolding check_in is_closed
   close_check =
       ap (λ (t : State). check_in t closed_now) close_state
-      ∙ check_front store (closed_phase ∷ []) (with_phase (state_of store) closed_phase) (omega arith)
-      ∙ rw (eq-eqb closed_phase closed_phase refl)
+      ∙ check_front store (closed_phase ∷ []) (with_phase (state_of store) Closed) (omega arith)
+
+  pub phase_closed : is_phase (number_at (numbers_in closed_now) 0) ≡ true
+  unfolding phase_number
+  phase_closed = rw closed_numbers (is_phase-number Closed)
 
 -- nothing else is asked of a closed check
 closed-sound : (c : Check) → is_sound (close c) ≡ is_sound c
@@ -70,8 +82,8 @@ module _ (store : List ℕ) (e : is_check store ≡ true) where
       and_true _ _
       (and_true _ _
       (eq-eqb (length closed_now) store_size (length-stored store 0 (words_bytes (closed_phase ∷ [])) ∙ size))
-      (ap (λ (t : State). is_phase t.phase) (close_state store size) ∙ closed-phase))
+      (phase_closed store size))
       (ap is_sound (close_check store size) ∙ closed-sound c ∙ check_sound store e)
 
-  pub close_put : check_of (closed_store store) ≡ some (close (check_in (state_of store) store))
-  close_put = check_of_lem (closed_store store) close_is_check ∙ ap some (close_check store (check_size store e))
+  pub close_put : check_of (closed_store store) ≡ Some (close (check_in (state_of store) store))
+  close_put = check_of_lem (closed_store store) close_is_check ∙ ap Some (close_check store (check_size store e))

@@ -5,16 +5,14 @@ use mathlib.Core.List.{List}
 use mir.Val.{Val}
 use denote.Laws.{Is}
 use denote.Struct.Declared as struct
-use denote.Enum.Declared as enum
 use Rattle.meaning.specs.declared.Time.{Time}
 use Rattle.meaning.specs.declared.Header.{Header}
 use Rattle.meaning.specs.contracts.Time as time
 use Rattle.meaning.specs.contracts.Header as header
 use Rattle.sets.specs.declared.Set.{Set}
-use Rattle.sets.specs.declared.Current.{Current}
-use Rattle.sets.specs.declared.Current.TheVariants.{Between, Open}
+use Rattle.std.specs.contracts.option.Option as option
+use Rattle.std.specs.Prelude.{Option, Some, None}
 use Rattle.sets.specs.contracts.Set as set
-use Rattle.sets.specs.contracts.Current as current
 use Rattle.checking.specs.declared.blocks.Pass.{Pass}
 use Rattle.checking.specs.contracts.blocks.Pass as pass
 use Rattle.store.specs.declared.State.{State}
@@ -43,10 +41,10 @@ known-set : (s : Set) (vs : List Val) → Is (struct.row set.the_type) s vs → 
 known-set s vs k = record { place = omega arith; first = known-header s.first _ k.1.1.1.0; last = omega arith; size = omega arith }
 
 -- where no set is open, the numbers are 0
-known-current : (c : Current) (vs : List Val) → Is (enum.row current.the_type) c vs → SetRange (set_in c)
+known-current : (c : Option Set) (vs : List Val) → Is (option.the_row set.the_row) c vs → SetRange (set_in c)
 unfolding set_in
-known-current Between vs k = omega arith
-known-current (Open s) vs k = known-set s _ k.1.1.1.1.0
+known-current None vs k = omega arith
+known-current (Some s) vs k = known-set s _ k.1.1.1.1.0
 
 pub known-pass : (w : Pass) (vs : List Val) → Is (struct.row pass.the_type) w vs → PassRange w
 known-pass w vs k =
@@ -60,18 +58,17 @@ known-pass w vs k =
       comments = omega arith;
       continuations = omega arith;
       users = omega arith;
-      at = omega arith;
-      spans = omega arith;
     }
 
 pub known_state : (s : State) (vs : List Val) → Is (struct.row state.the_type) s vs → InRange s
 known_state s vs k =
     record {
-      phase = omega arith;
       mode = omega arith;
       room = omega arith;
       gsi = omega arith;
       part = omega arith;
       count = omega arith;
       pass = known-pass s.pass _ k.1.1.1.1.1.1.1.1.0;
+      at = omega arith;
+      spans = omega arith;
     }

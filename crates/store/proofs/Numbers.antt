@@ -12,11 +12,14 @@ use Rattle.meaning.specs.declared.Header.{Header}
 use Rattle.meaning.proofs.ListLaws.{All, nil, cons}
 use Rattle.words.proofs.Laws.{IsWord}
 use Rattle.sets.specs.declared.Set.{Set}
-use Rattle.sets.specs.declared.Current.{Current}
-use Rattle.sets.specs.declared.Current.TheVariants.{Between, Open}
+use Rattle.std.specs.Prelude.{Option, Some, None}
+use Rattle.store.specs.declared.Phase.{Phase}
+use Rattle.store.specs.declared.Phase.TheVariants.{Open, Closed}
 use Rattle.store.specs.declared.State.{State}
 use Rattle.store.specs.Layout.{number_count}
+use Rattle.store.specs.Phases.{phase_number}
 use Rattle.store.specs.Numbers.{set_in, open_number, numbers_of, time_from, header_from, set_from, current_from, pass_from, state_from}
+use Rattle.store.proofs.Phases.{open_phase_is, closed_phase_is}
 use Rattle.store.proofs.Ranges.{TimeRange, HeaderRange, SetRange, InRange}
 
 pub numbers_length : (s : State) → length (numbers_of s) ≡ number_count
@@ -67,23 +70,28 @@ header_back h r =
       byte h.cf r.cf,
     )
 
-current_back : (c : Current) → SetRange (set_in c) → cond (eqb (open_number c) 1) (Open (cut_set (set_in c))) Between ≡ c
+current_back : (c : Option Set) → SetRange (set_in c) → cond (eqb (open_number c) 1) (Some (cut_set (set_in c))) None ≡ c
 unfolding set_in open_number
-current_back Between r = refl
-current_back (Open s) r = rw (header_back s.first r.first, byte s.last r.last)
+current_back None r = refl
+current_back (Some s) r = rw (header_back s.first r.first, byte s.last r.last)
 
 -- a check is told by its numbers
-pub numbers_back : (s : State) → InRange s → state_from (numbers_of s) ≡ s
+pub numbers_back : (s : State) → InRange s → state_from s.phase (numbers_of s) ≡ s
 unfolding numbers_of state_from pass_from current_from set_from header_from time_from
 numbers_back s r =
     let l : s.pass.sets.least % 4294967296 ≡ s.pass.sets.least = omega (arith, r.pass.least) in
     rw (current_back s.pass.sets.current r.pass.set, l)
 
--- 0 and 1 are numbers of eight bytes
-open_word : (c : Current) → IsWord (open_number c)
+-- a phase, and 0 and 1, are numbers of eight bytes
+phase_word : (p : Phase) → IsWord (phase_number p)
+unfolding phase_number
+phase_word Open = omega (arith, open_phase_is)
+phase_word Closed = omega (arith, closed_phase_is)
+
+open_word : (c : Option Set) → IsWord (open_number c)
 unfolding open_number
-open_word Between = omega arith
-open_word (Open s) = omega arith
+open_word None = omega arith
+open_word (Some s) = omega arith
 
 byte_word : (n : ℕ) → n < 256 → IsWord n
 byte_word n h = omega arith
@@ -99,9 +107,9 @@ numbers_words s r =
     let h = w.set.first in
     let least : IsWord s.pass.sets.least = omega (arith, w.least) in
     let sn : IsWord (set_in s.pass.sets.current).first.sn = omega (arith, h.sn) in
-    cons r.phase (cons r.mode (cons r.room (cons r.gsi (cons r.part (cons r.count
+    cons (phase_word _) (cons r.mode (cons r.room (cons r.gsi (cons r.part (cons r.count
     (cons w.number (cons w.place (cons w.offset (cons least (cons (open_word _)
     (cons w.set.place (cons (byte_word _ h.sgn) (cons sn (cons (byte_word _ h.ebn) (cons (byte_word _ h.cs)
     (time_words h.tci (time_words h.tco
     (cons (byte_word _ h.vp) (cons (byte_word _ h.jc) (cons (byte_word _ h.cf) (cons (byte_word _ w.set.last) (cons w.set.size
-    (cons w.subtitles (cons w.comments (cons w.continuations (cons w.users (cons w.at (cons w.spans nil))))))))))))))))))))))))))))
+    (cons w.subtitles (cons w.comments (cons w.continuations (cons w.users (cons r.at (cons r.spans nil))))))))))))))))))))))))))))

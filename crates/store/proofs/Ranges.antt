@@ -42,14 +42,13 @@ pub record PassRange (w : Pass) : Type 0 where
   pub comments : IsWord w.counts.comments
   pub continuations : IsWord w.counts.continuations
   pub users : IsWord w.counts.users
-  pub at : IsWord w.tally.at
-  pub spans : IsWord w.tally.spans
 
 pub record InRange (s : State) : Type 0 where
-  pub phase : IsWord s.phase
   pub mode : IsWord s.mode
   pub room : IsWord s.room
   pub gsi : IsWord s.gsi
   pub part : IsWord s.part
   pub count : IsWord s.count
   pub pass : PassRange s.pass
+  pub at : IsWord s.tally.at
+  pub spans : IsWord s.tally.spans

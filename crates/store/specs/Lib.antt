@@ -1,4 +1,5 @@
 pub mod Layout
+pub mod Phases
 pub mod Numbers
 pub mod Stores
 pub mod Tests

@@ -1,39 +1,40 @@
 -- The numbers of a check, in their order, and the other way round.
 -- Assumes nothing.
-use Rattle.std.specs.Prelude.{ℕ, ◌+◌, ◌%◌, cond, List, [], ◌∷◌, eqb, get_or}
+use Rattle.std.specs.Prelude.{ℕ, ◌+◌, ◌%◌, cond, List, [], ◌∷◌, Option, Some, None, eqb, get_or}
 use Rattle.meaning.specs.declared.Time.{Time}
 use Rattle.meaning.specs.declared.Header.{Header}
 use Rattle.sets.specs.declared.Set.{Set}
-use Rattle.sets.specs.declared.Current.{Current}
-use Rattle.sets.specs.declared.Current.TheVariants.{Between, Open}
+use Rattle.text.specs.declared.Tally.{Tally}
 use Rattle.checking.specs.declared.blocks.Pass.{Pass}
+use Rattle.store.specs.declared.Phase.{Phase}
 use Rattle.store.specs.declared.State.{State}
+use Rattle.store.specs.Phases.{phase_number}
 
 abbrev no_time : Time
 no_time = record { hours = 0; minutes = 0; seconds = 0; frames = 0 }
 
 -- the open set; where there is none, numbers that are not read
-unfoldable pub set_in : Current → Set
-set_in Between =
+unfoldable pub set_in : Option Set → Set
+set_in None =
     record {
       place = 0;
       first = record { sgn = 0; sn = 0; ebn = 0; cs = 0; tci = no_time; tco = no_time; vp = 0; jc = 0; cf = 0 };
       last = 0;
       size = 0;
     }
-set_in (Open s) = s
+set_in (Some s) = s
 
 -- 1 where a set is open
-unfoldable pub open_number : Current → ℕ
-open_number Between = 0
-open_number (Open s) = 1
+unfoldable pub open_number : Option Set → ℕ
+open_number None = 0
+open_number (Some s) = 1
 
 unfoldable pub numbers_of : State → List ℕ
 numbers_of s =
     let w = s.pass in
     let set = set_in w.sets.current in
     let h = set.first in
-    s.phase
+    phase_number s.phase
     ∷ s.mode
     ∷ s.room
     ∷ s.gsi
@@ -66,8 +67,8 @@ numbers_of s =
     ∷ w.counts.comments
     ∷ w.counts.continuations
     ∷ w.counts.users
-    ∷ w.tally.at
-    ∷ w.tally.spans
+    ∷ s.tally.at
+    ∷ s.tally.spans
     ∷ []
 
 -- number i, and its lowest byte
@@ -98,8 +99,8 @@ header_from ns =
 unfoldable pub set_from : List ℕ → Set
 set_from ns = record { place = number_at ns 11; first = header_from ns; last = byte_at ns 27; size = number_at ns 28 }
 
-unfoldable pub current_from : List ℕ → Current
-current_from ns = cond (eqb (number_at ns 10) 1) (Open (set_from ns)) Between
+unfoldable pub current_from : List ℕ → Option Set
+current_from ns = cond (eqb (number_at ns 10) 1) (Some (set_from ns)) None
 
 unfoldable pub pass_from : List ℕ → Pass
 pass_from ns =
@@ -107,30 +108,30 @@ pass_from ns =
       refusal = record { number = number_at ns 6; place = number_at ns 7; offset = number_at ns 8 };
       sets = record { least = number_at ns 9 % 4294967296; current = current_from ns };
       counts = record { subtitles = number_at ns 29; comments = number_at ns 30; continuations = number_at ns 31; users = number_at ns 32 };
-      tally = record { at = number_at ns 33; spans = number_at ns 34 };
     }
 
-unfoldable pub state_from : List ℕ → State
-state_from ns =
+unfoldable pub state_from : Phase → List ℕ → State
+state_from phase ns =
     record {
-      phase = number_at ns 0;
+      phase = phase;
       mode = number_at ns 1;
       room = number_at ns 2;
       gsi = number_at ns 3;
       part = number_at ns 4;
       count = number_at ns 5;
       pass = pass_from ns;
+      tally = record { at = number_at ns 33; spans = number_at ns 34 };
     }
 
 -- a check in another phase, with another count of bytes of the GSI block and of the block that is not whole yet, and after whole blocks
-abbrev pub with_phase : State → ℕ → State
-with_phase s n = record { phase = n; mode = s.mode; room = s.room; gsi = s.gsi; part = s.part; count = s.count; pass = s.pass }
+abbrev pub with_phase : State → Phase → State
+with_phase s p = record s { phase = p }
 
 abbrev pub with_gsi_size : State → ℕ → State
-with_gsi_size s n = record { phase = s.phase; mode = s.mode; room = s.room; gsi = n; part = s.part; count = s.count; pass = s.pass }
+with_gsi_size s n = record s { gsi = n }
 
 abbrev pub with_part_size : State → ℕ → State
-with_part_size s n = record { phase = s.phase; mode = s.mode; room = s.room; gsi = s.gsi; part = n; count = s.count; pass = s.pass }
+with_part_size s n = record s { part = n }
 
-abbrev pub with_pass : State → ℕ → Pass → State
-with_pass s n w = record { phase = s.phase; mode = s.mode; room = s.room; gsi = s.gsi; part = 0; count = n; pass = w }
+abbrev pub with_pass : State → ℕ → Pass → Tally → State
+with_pass s n w t = record s { part = 0; count = n; pass = w; tally = t }

@@ -3,29 +3,38 @@
 
 #![tactic(auto)]
 
+ghost use Rattle.std.specs.Prelude.{◌≡◌};
+
 use checking::Pass;
 use meaning::{BLOCK_SIZE, GSI_SIZE, Look};
 use sets::Sets;
+use text::Tally;
 
 mod loading;
 mod saving;
 mod testing;
 
-pub use loading::state_of;
+pub use loading::state_in;
 pub use saving::put_state;
-pub use testing::is_check;
+
+#[derive(Clone, Copy, PartialEq, Eq)]
+pub enum Phase {
+    Open,
+    Closed,
+}
 
 // The numbers of a check: whether it is open or closed, break mode, room, the bytes of the GSI block so far and of the block that is not whole yet,
-// the whole blocks, and pass one over them.
+// the whole blocks, pass one over them, and how much it laid.
 #[derive(Clone, Copy)]
 pub struct State {
-    pub phase: u64,
+    pub phase: Phase,
     pub mode: u64,
     pub room: u64,
     pub gsi: usize,
     pub part: usize,
     pub count: usize,
     pub pass: Pass,
+    pub tally: Tally,
 }
 
 const NUMBERS: usize = 35;
@@ -44,9 +53,37 @@ pub const SIZE: usize = TEXT_AT + Sets::ROOM;
 // The most blocks that TNB can count.
 pub const MOST_BLOCKS: usize = 99999;
 
-impl State {
-    // The phases, which spell STLCHECK and STLCLOSE in a store.
-    pub const OPEN: u64 = 5423254552953246803;
+// The phases spell STLCHECK and STLCLOSE in a store.
+const OPEN: u64 = 5423254552953246803;
 
-    pub const CLOSED: u64 = 4995423600649196627;
+const CLOSED: u64 = 4995423600649196627;
+
+impl From<Phase> for u64 {
+    ghost use Rattle.store.specs.Phases.{phase_number};
+
+    ghost from_gives = { λ p n. n ≡ phase_number p };
+
+    #[tactic(auto, using(crate::proofs::Phases::open_phase_is, crate::proofs::Phases::closed_phase_is), unfolding(crate::specs::Phases::phase_number))]
+    fn from(phase: Phase) -> u64 {
+        match phase {
+            Phase::Open => OPEN,
+            Phase::Closed => CLOSED,
+        }
+    }
+}
+
+impl Phase {
+    ghost use Rattle.store.specs.Phases.{phase_in};
+
+    // The phase that a number spells, if it spells one.
+    #[tactic(auto, using(crate::proofs::Phases::open_phase_is, crate::proofs::Phases::closed_phase_is), unfolding(crate::specs::Phases::phase_in, crate::specs::Phases::phase_from))]
+    pub(crate) fn of(number: u64) -> Option<Phase>
+        ensures { result ≡ phase_in number }
+    {
+        match number {
+            OPEN => Some(Phase::Open),
+            CLOSED => Some(Phase::Closed),
+            _ => None,
+        }
+    }
 }

@@ -6,102 +6,68 @@ ghost use Rattle.words.specs.Words.{words_bytes};
 ghost use Rattle.store.specs.Numbers.{set_in, open_number, numbers_of};
 
 use crate::{NUMBERS, State};
-use meaning::{Header, Time};
-use sets::{Current, Set};
-
-const NO_TIME: Time = Time {
-    hours: 0,
-    minutes: 0,
-    seconds: 0,
-    frames: 0,
-};
-
-const NO_SET: Set = Set {
-    place: 0,
-    first: Header {
-        sgn: 0,
-        sn: 0,
-        ebn: 0,
-        cs: 0,
-        tci: NO_TIME,
-        tco: NO_TIME,
-        vp: 0,
-        jc: 0,
-        cf: 0,
-    },
-    last: 0,
-    size: 0,
-};
+use sets::Set;
 
 // The open set; where there is none, numbers that are not read.
-fn set_in(current: Current) -> Set
+#[tactic(auto, unfolding(crate::specs::Numbers::set_in))]
+fn set_in(current: Option<Set>) -> Set
     ensures { result ≡ set_in current }
 {
-    match current {
-        Current::Between => NO_SET,
-        Current::Open(set) => set,
-    }
+    current.unwrap_or_default()
 }
 
-fn open_number(current: Current) -> u64
+// 1 or 0: a store has all its numbers, whether a set is open or not.
+#[tactic(auto, unfolding(crate::specs::Numbers::open_number))]
+fn open_number(current: Option<Set>) -> u64
     ensures { result ≡ open_number current }
 {
-    match current {
-        Current::Between => 0,
-        Current::Open(_) => 1,
-    }
+    u64::from(current.is_some())
 }
 
+#[tactic(auto, unfolding(crate::specs::Numbers::numbers_of))]
 fn numbers_of(s: State) -> [u64; NUMBERS]
     ensures { result ≡ numbers_of s }
 {
     let w = s.pass;
-    let refusal = w.refusal;
-    let sets = w.sets;
-    let current = sets.current;
-    let open = open_number(current);
+    let current = w.sets.current;
     let set = set_in(current);
     let h = set.first;
-    let tci = h.tci;
-    let tco = h.tco;
-    let counts = w.counts;
-    let tally = w.tally;
     [
-        s.phase,
+        u64::from(s.phase),
         s.mode,
         s.room,
         s.gsi as u64,
         s.part as u64,
         s.count as u64,
-        refusal.number,
-        refusal.place,
-        refusal.offset,
-        sets.least as u64,
-        open,
+        w.refusal.number,
+        w.refusal.place,
+        w.refusal.offset,
+        u64::from(w.sets.least),
+        open_number(current),
         set.place,
-        h.sgn as u64,
-        h.sn as u64,
-        h.ebn as u64,
-        h.cs as u64,
-        tci.hours as u64,
-        tci.minutes as u64,
-        tci.seconds as u64,
-        tci.frames as u64,
-        tco.hours as u64,
-        tco.minutes as u64,
-        tco.seconds as u64,
-        tco.frames as u64,
-        h.vp as u64,
-        h.jc as u64,
-        h.cf as u64,
-        set.last as u64,
+        u64::from(h.sgn),
+        u64::from(h.sn),
+        u64::from(h.ebn),
+        u64::from(h.cs),
+        u64::from(h.tci.hours),
+        u64::from(h.tci.minutes),
+        u64::from(h.tci.seconds),
+        u64::from(h.tci.frames),
+        u64::from(h.tco.hours),
+        u64::from(h.tco.minutes),
+        u64::from(h.tco.seconds),
+        u64::from(h.tco.frames),
+        u64::from(h.vp),
+        u64::from(h.jc),
+        u64::from(h.cf),
+        u64::from(set.last),
         set.size as u64,
-        counts.subtitles,
-        counts.comments,
-        counts.continuations,
-        counts.users,
-        tally.at as u64,
-        tally.spans as u64,
+        w.counts.subtitles,
+        w.counts.comments,
+        w.counts.continuations,
+        w.counts.users,
+        s.tally.at as u64,
+        s.tally.spans as u64,
     ]
 }
 
@@ -109,6 +75,5 @@ fn numbers_of(s: State) -> [u64; NUMBERS]
 pub fn put_state(store: &mut [u8], s: State)
     ensures { store.new ≡ stored store.old 0 (words_bytes (numbers_of s)) }
 {
-    let ns = numbers_of(s);
-    words::put_words(store, &ns);
+    words::put_words(store, &numbers_of(s));
 }

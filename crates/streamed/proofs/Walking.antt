@@ -3,24 +3,35 @@
 use Prim.Native.Nat.{ℕ, suc, ◌+◌, ◌-◌, ◌≤◌, min}
 use native.Mathlib.Omega.{arith}
 use mathlib.Core.Path.{◌≡◌, refl, sym, ap, ◌∙◌}
+use Rattle.std.specs.Prelude.{Result, Ok, Err}
 use mathlib.Core.Bool.{Bool, true, false}
 use mathlib.Core.List.{List, [], ◌∷◌, ◌++◌, append-nil}
-use lib.ListN.{length, take, drop, replicate, length-drop, length-replicate, drop_of_length-le}
+use lib.ListN.{length, length-append, take, drop, replicate, length-drop, length-replicate, drop_of_length-le}
 use lib.Seq.{take_all, length-take-le}
 use Rattle.meaning.specs.declared.Format.{Format}
+use Rattle.meaning.specs.declared.Counts.{Counts}
+use Rattle.meaning.specs.declared.Refusal.{Refusal}
+use Rattle.meaning.specs.Refusals.{is_good}
+use Rattle.meaning.specs.Blocks.{is_comment}
+use Rattle.meaning.specs.Sets.{BlockSet}
+use Rattle.text.specs.declared.Tally.{Tally}
+use Rattle.sets.specs.declared.Step.{Step}
+use Rattle.sets.specs.declared.Step.TheVariants.{NoRoom, Pending, Closed}
+use Rattle.sets.specs.Assembling.{set_of}
 use Rattle.meaning.specs.Lists.{field}
 use Rattle.meaning.specs.Looks.{look_count}
 use Rattle.meaning.specs.Blocks.{gsi_size, blocks}
 use Rattle.meaning.specs.Gsi.{most_blocks, format_of}
 use Rattle.meaning.specs.Walk.{steps, set_rule}
-use Rattle.meaning.proofs.Logic.{by_le}
+use Rattle.meaning.proofs.Logic.{by_le, by_test}
 use Rattle.laws.proofs.Steps.{blocks-length}
-use Rattle.output.specs.Output.{past, stored}
+use Rattle.output.specs.Output.{stored}
+use Rattle.output.proofs.Laws.{length-stored}
 use Rattle.words.specs.Flags.{flags_bytes, flags_over}
 use Rattle.words.proofs.Laws.{flags_all}
-use Rattle.closed.specs.Body.{lay_set}
+use Rattle.closed.specs.Body.{Body, laid, lay_set}
 use Rattle.checking.specs.declared.blocks.Pass.{Pass}
-use Rattle.checking.specs.Passing.{Passing, outcome_of, passing_outcome, pass_all}
+use Rattle.checking.specs.Passing.{Passing, outcome_of, passing_outcome, more, stepped, block_taken, pass_all}
 use Rattle.checking.proofs.Stepping.{passes}
 use Rattle.feeding.specs.Feeding.{with_walk, walked}
 use Rattle.feeding.specs.Sound.{is_within}
@@ -45,9 +56,50 @@ pub length_none : (xs : List ℕ) → length xs ≡ 0 → xs ≡ []
 length_none [] e = refl
 length_none (x ∷ xs) e = absurd (omega arith)
 
+-- over a buffer of no bytes none are laid
+stored-none : (s : List ℕ) (at : ℕ) (xs : List ℕ) → s ≡ [] → stored s at xs ≡ []
+stored-none s at xs e = length_none (stored s at xs) (length-stored s at xs ∙ ap length e)
+
+lay-none : (f : Format) (s : BlockSet) (b : Body) → b.out ≡ [] → (lay_set f s b).out ≡ []
+unfolding lay_set laid
+lay-none f s b e =
+    by_test (is_comment s.first)
+    (λ g. rw (g, lay_set) e)
+    (λ g. rw (g, lay_set) (stored-none _ _ _ e))
+
+stepped-none :
+    (f : Format) (c : Counts) (text : List ℕ) (p : Passing) (s : Result Step Refusal) → p.body.out ≡ [] → (stepped f c text p s).body.out ≡ []
+unfolding stepped
+stepped-none f c text p (Err r) e = e
+stepped-none f c text p (Ok NoRoom) e = e
+stepped-none f c text p (Ok (Pending s)) e = e
+stepped-none f c text p (Ok (Closed set s)) e =
+    by_test (is_good (set_rule f (set_of set text)))
+    (λ g. rw (g, stepped) (lay-none f (set_of set text) p.body e))
+    (λ g. rw (g, stepped) e)
+
+all-none : (f : Format) (place : ℕ) (p : Passing) (bs : List (List ℕ)) → p.body.out ≡ [] → (pass_all f place p bs).body.out ≡ []
+unfolding pass_all block_taken
+all-none f place p [] e = e
+all-none f place p (b ∷ bs) e =
+    by_test (is_good p.pass.refusal)
+    (λ g. rw (g, pass_all) (all-none f (more place) (block_taken f place b p) bs (stepped-none f _ _ p _ e)))
+    (λ g. rw (g, pass_all) e)
+
+-- the store keeps its size where its text is changed in its place, and the looks in use are written
+pub walk-size :
+    (store : List ℕ) → length store ≡ store_size → (k : ℕ) → k ≡ length store - text_at → {store' : List ℕ} (text : List ℕ) (marks : List Bool)
+    → store' ≡ stored (take text_at store ++ (text ++ drop k (drop text_at store))) marks_at (flags_bytes marks)
+    → length text ≡ length (take k (drop text_at store)) → length store' ≡ length store
+walk-size store l k all text marks t n =
+    let d = length-drop text_at store in
+    let a : length (take text_at store) ≡ text_at = length-take-le text_at store (omega arith) in
+    let b : length (take k (drop text_at store)) ≡ k = length-take-le k (drop text_at store) (omega arith) in
+    ap length t ∙ length-stored _ marks_at (flags_bytes marks) ∙ simp length-append (omega (arith, a, b, d, n, length-drop k (drop text_at store)))
+
 module _ (s : State) (store : List ℕ) (l : length store ≡ store_size) (low : s.count ≤ suc most_blocks) (h : is_within (min s.count most_blocks) (check_in s store).outcome ≡ true) where
   abbrev start : Passing
-  start = record { pass = s.pass; text = text_in store; out = []; marks = marks_in store }
+  start = record { pass = s.pass; text = text_in store; body = record { out = []; marks = marks_in store; tally = s.tally } }
 
   module _ (f : Format) (bytes : List ℕ) (n : ℕ) {m : ℕ} (e : m ≡ min n (most_blocks - s.count)) where
     abbrev Right : Passing → Type 0
@@ -69,33 +121,34 @@ module _ (s : State) (store : List ℕ) (l : length store ≡ store_size) (low :
     walk-right d = rw d (by_le (suc most_blocks) s.count right-none (λ p. right_some (omega arith)))
 
   -- the whole function `walk`, by what its calls promise
-  module _ (bytes : List ℕ) (n k : ℕ) (all : k ≡ length store - text_at) (low-gsi : s.gsi ≤ gsi_size) {f : Format} (g : f ≡ format_of s.mode (field gsi_at s.gsi store)) {on : List Bool} (o : on ≡ flags_over (field marks_at look_count store) (replicate look_count false)) where
+  module _ (bytes : List ℕ) (n k : ℕ) (all : k ≡ length store - text_at) (low-gsi : s.gsi ≤ gsi_size) {f : Format} (g : f ≡ format_of s.mode (field gsi_at s.gsi store)) {on : List Bool} (o : on ≡ marks_in store) where
     text-here : take k (drop text_at store) ≡ text_in store
     text-here = take_all k (drop text_at store) (omega (arith, length-drop text_at store))
 
     nothing_behind : drop k (drop text_at store) ≡ []
     nothing_behind = drop_of_length-le (drop text_at store) {i = k} (omega (arith, length-drop text_at store))
 
-    told :
-        {m : ℕ} {w : Pass} {text out : List ℕ} {marks : List Bool} → m ≡ min n (most_blocks - s.count)
-        → record { pass = w; text = text; out = out; marks = marks } ≡ pass_all f s.count (record { pass = s.pass; text = take k (drop text_at store); out = []; marks = on }) (blocks m bytes)
-        → length out ≡ 0
-        → outcome_of w text [] marks ≡ (walked (check_in s store) n bytes).outcome
-    unfolding check_in
-    told {m} {w} {text} {out} {marks} e d z =
-        let x = walk-right f bytes n e (rw (text-here, marks-read store l o) at d) in
-        ap (λ (b : List ℕ). outcome_of w text b marks) (sym (length_none out z)) ∙ x ∙ rw (e, g) refl
+    abbrev from : Passing
+    from = record { pass = s.pass; text = take k (drop text_at store); body = record { out = []; marks = on; tally = s.tally } }
 
-    pub walk_checked :
-        {m count : ℕ} {w : Pass} {text out store' : List ℕ} {marks : List Bool} → m ≡ min n (most_blocks - s.count)
-        → record { pass = w; text = text; out = out; marks = marks } ≡ pass_all f s.count (record { pass = s.pass; text = take k (drop text_at store); out = []; marks = on }) (blocks m bytes)
-        → length out ≡ 0 → length marks ≡ look_count → store' ≡ stored (take text_at store ++ (text ++ drop k (drop text_at store))) marks_at (flags_bytes marks)
-        → count ≡ min (past s.count n) (suc most_blocks)
-        → check_in (with_pass s count w) store' ≡ walked (check_in s store) n bytes
-    unfolding past check_in
-    walk_checked {m} {count} {w} {text} {out} {store'} {marks} e d z y t q =
-        let c : count ≡ min (s.count + n) (suc most_blocks) = omega arith in
-        let b : store' ≡ stored (take text_at store ++ text) marks_at (flags_bytes marks) = rw (nothing_behind, append-nil text) at t in
-        rw c
-        (check_walk store l s (take text_at store ++ text) store' text marks (min (s.count + n) (suc most_blocks)) w low-gsi refl b y
-        ∙ ap (with_walk (check_in s store) (min (s.count + n) (suc most_blocks))) (told e d z))
+    module _ {m : ℕ} {w : Pass} {text : List ℕ} {body : Body} (e : m ≡ min n (most_blocks - s.count)) (d : record { pass = w; text = text; body = body } ≡ pass_all f s.count from (blocks m bytes)) where
+      out-none : body.out ≡ []
+      out-none = ap (λ (p : Passing). p.body.out) d ∙ all-none f s.count from (blocks m bytes) refl
+
+      told : outcome_of w text (record { out = []; marks = body.marks; tally = body.tally }) ≡ (walked (check_in s store) n bytes).outcome
+      unfolding check_in
+      told =
+          let x = walk-right f bytes n e (rw (text-here, o) at d) in
+          ap (λ (b : List ℕ). outcome_of w text (record { out = b; marks = body.marks; tally = body.tally })) (sym out-none) ∙ x ∙ rw (e, g) refl
+
+      pub walk_checked :
+          {count : ℕ} {tally : Tally} {store' : List ℕ} {marks : List Bool} → marks ≡ body.marks → length marks ≡ look_count
+          → store' ≡ stored (take text_at store ++ (text ++ drop k (drop text_at store))) marks_at (flags_bytes marks)
+          → count ≡ min (s.count + n) (suc most_blocks) → tally ≡ body.tally
+          → check_in (with_pass s count w tally) store' ≡ walked (check_in s store) n bytes
+      unfolding check_in
+      walk_checked {count} {tally} {store'} {marks} z y t c a =
+          let b : store' ≡ stored (take text_at store ++ text) marks_at (flags_bytes body.marks) = rw (nothing_behind, append-nil text, z) at t in
+          rw (c, a)
+          (check_walk store l s (take text_at store ++ text) store' text body.marks (min (s.count + n) (suc most_blocks)) w body.tally low-gsi refl b (ap length (sym z) ∙ y)
+          ∙ ap (with_walk (check_in s store) (min (s.count + n) (suc most_blocks))) told)

@@ -8,26 +8,36 @@ ghost use Rattle.store.specs.Stores.{check_of};
 ghost use Rattle.streamed.specs.Checks.{begun_state, opened_in, fed_in, closed_in, answer_in, is_running, opened_store, store_closed};
 
 use checking::Pass;
-use meaning::{Answer, Look};
-use store::State;
+use meaning::{Answer, Look, Refusal};
+use store::{Phase, State};
+use text::Tally;
 
-mod answering;
-mod lump;
+mod check;
 
+use check::StoredCheck;
 pub use store::SIZE;
 
+// A store that was never opened is answered as a check opened with break mode 0: rule 1.
+const NEVER_OPENED: Refusal = Refusal {
+    number: 1,
+    place: 0,
+    offset: 0,
+};
+
 // Before the first lump.
+#[tactic(auto, unfolding(meaning::specs::Refusals::no_refusal, meaning::specs::Walk::no_counts))]
 fn begun(mode: u64, room: u64) -> State
     ensures { result ≡ begun_state mode room }
 {
     State {
-        phase: State::OPEN,
+        phase: Phase::Open,
         mode,
         room,
         gsi: 0,
         part: 0,
         count: 0,
         pass: Pass::BEGUN,
+        tally: Tally { at: 0, spans: 0 },
     }
 }
 
@@ -49,15 +59,15 @@ pub fn feed_check(store: &mut [u8], lump: &[u8])
     ensures check { check_of store.new ≡ fed_in (check_of store.old) lump.now }
     ensures kept { is_running (check_of store.old) ≡ false → store.new ≡ store.old }
 {
-    let s = store::state_of(store);
-    if !store::is_check(store.len(), s) {
+    let Some(state) = store::state_in(store) else {
+        return;
+    };
+    if state.phase == Phase::Closed {
         return;
     }
-    if s.phase != State::OPEN {
-        return;
-    }
-    let r = lump::feed_all(store, lump, s);
-    store::put_state(store, r);
+    let mut check = StoredCheck { store, state };
+    check.feed(lump);
+    check.save();
 }
 
 // The answer on the file so far. The check is closed then, and the answer stays.
@@ -66,14 +76,13 @@ pub fn close_check(store: &mut [u8]) -> Answer
     ensures check { check_of store.new ≡ closed_in (check_of store.old) }
     ensures store { store.new ≡ store_closed store.old }
 {
-    let s = store::state_of(store);
-    if !store::is_check(store.len(), s) {
-        return answering::NEVER_OPENED;
+    let Some(state) = store::state_in(store) else {
+        return convert::answer_refused(NEVER_OPENED, 0);
+    };
+    let check = StoredCheck { store, state };
+    let answer = check.answer();
+    if state.phase == Phase::Open {
+        words::put_words(check.store, &[u64::from(Phase::Closed)]);
     }
-    let a = answering::answer_now(store, s);
-    if s.phase == State::OPEN {
-        let closed = [State::CLOSED; 1];
-        words::put_words(store, &closed);
-    }
-    a
+    answer
 }

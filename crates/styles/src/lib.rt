@@ -2,15 +2,14 @@
 
 #![tactic(auto)]
 
-ghost use Rattle.std.specs.Prelude.{◌≡◌, true, cond, ◌+◌, ◌≤◌, set};
+ghost use Rattle.std.specs.Prelude.{◌≡◌, true, cond, set};
 ghost use mathlib.Core.List.{flat_map};
-ghost use Rattle.meaning.specs.Lists.{any, up_from};
-ghost use Rattle.meaning.specs.Looks.{look_count};
 ghost use Rattle.meaning.specs.Document.{style_name, channel, colour_name, style_end, write_style};
-ghost use Rattle.output.specs.Output.{Wrote};
-ghost use Rattle.styles.specs.Styles.{is_on, marked_from, looks_marked, look_and_later};
+ghost use Rattle.output.specs.Output.{Put};
+ghost use Rattle.styles.specs.Styles.{looks_marked};
 
 use meaning::Look;
+use output::Writer;
 
 // A mark for each look, set for the looks in use.
 #[derive(Clone, Copy)]
@@ -18,126 +17,82 @@ pub struct Marks {
     pub on: [bool; Look::COUNT],
 }
 
-// A number past the end of the marks marks nothing.
+// A number past the end of the marks marks nothing. By index, since get_mut does not promise what the slice holds after it.
 pub fn mark(on: &mut [bool], look: u16)
     ensures { on.new ≡ set on.old look true }
 {
-    let k = look as usize;
+    let k = usize::from(look);
     if k < on.len() {
         on[k] = true;
     }
 }
 
-pub fn put_style_name(out: &mut [u8], at: usize, look: u16) -> usize
-    ensures { Wrote out.old at (style_name look) out.new result }
+pub fn put_style_name(w: &mut Writer, look: u16)
+    ensures { Put w.old (style_name look) w.new }
 {
-    let p = output::put_byte(out, at, b's');
-    numbers::put_digits3(out, p, look as usize)
+    w.put_byte(b's');
+    numbers::put_digits3(w, usize::from(look));
 }
 
 // One of two texts.
-fn put_either(out: &mut [u8], at: usize, first: bool, a: &[u8], b: &[u8]) -> usize
-    ensures { Wrote out.old at (cond first a.now b.now) out.new result }
+fn put_either(w: &mut Writer, first: bool, a: &[u8], b: &[u8])
+    ensures { Put w.old (cond first a.now b.now) w.new }
 {
-    if first {
-        return output::put(out, at, a);
-    }
-    output::put(out, at, b)
+    w.put(if first { a } else { b });
 }
 
-fn put_channel(out: &mut [u8], at: usize, bit: u8) -> usize
-    ensures { Wrote out.old at (channel bit) out.new result }
+#[tactic(auto, unfolding(meaning::specs::Document::channel, meaning::specs::Lists::bytes))]
+fn put_channel(w: &mut Writer, bit: u8)
+    ensures { Put w.old (channel bit) w.new }
 {
-    put_either(out, at, bit == 0, b"00", b"ff")
+    put_either(w, bit == 0, b"00", b"ff");
 }
 
-fn put_colour_name(out: &mut [u8], at: usize, colour: u8) -> usize
-    ensures { Wrote out.old at (colour_name colour) out.new result }
+fn put_colour_name(w: &mut Writer, colour: u8)
+    ensures { Put w.old (colour_name colour) w.new }
 {
-    let p = output::put_byte(out, at, b'#');
-    let p = put_channel(out, p, colour % 2);
-    let p = put_channel(out, p, colour / 2 % 2);
-    put_channel(out, p, colour / 4 % 2)
+    w.put_byte(b'#');
+    put_channel(w, colour % 2);
+    put_channel(w, colour / 2 % 2);
+    put_channel(w, colour / 4 % 2);
 }
 
 // The end of a style's line: size, italics and underline.
-fn put_style_end(out: &mut [u8], at: usize, shown: Look) -> usize
-    ensures { Wrote out.old at (style_end shown) out.new result }
+fn put_style_end(w: &mut Writer, shown: Look)
+    ensures { Put w.old (style_end shown) w.new }
 {
-    let p = output::put(out, at, b"\" tts:fontSize=\"");
-    let p = put_either(out, p, shown.double, b"1c 2c", b"1c 1c");
-    let p = output::put(out, p, b"\" tts:fontStyle=\"");
-    let p = put_either(out, p, shown.italics, b"italic", b"normal");
-    let p = output::put(out, p, b"\" tts:textDecoration=\"");
-    let p = put_either(out, p, shown.underline, b"underline", b"none");
-    output::put(out, p, b"\"/>\n")
+    w.put(b"\" tts:fontSize=\"");
+    put_either(w, shown.double, b"1c 2c", b"1c 1c");
+    w.put(b"\" tts:fontStyle=\"");
+    put_either(w, shown.italics, b"italic", b"normal");
+    w.put(b"\" tts:textDecoration=\"");
+    put_either(w, shown.underline, b"underline", b"none");
+    w.put(b"\"/>\n");
 }
 
 // One line of the styling.
-fn put_style(out: &mut [u8], at: usize, look: u16) -> usize
-    ensures { Wrote out.old at (write_style look) out.new result }
+fn put_style(w: &mut Writer, look: u16)
+    ensures { Put w.old (write_style look) w.new }
 {
     let shown = Look::unpack(look);
-    let p = output::put(out, at, b"<tt:style xml:id=\"");
-    let p = put_style_name(out, p, look);
-    let p = output::put(out, p, b"\" tts:color=\"");
-    let p = put_colour_name(out, p, shown.colour);
-    let p = output::put(out, p, b"\" tts:backgroundColor=\"");
-    let p = put_colour_name(out, p, shown.background);
-    put_style_end(out, p, shown)
-}
-
-// Whether one of eight looks is marked; the eight marks are tested as one number in the compiled code.
-fn any_of_eight(on: &[bool; Look::COUNT], from: usize) -> bool
-    requires { from + 8 ≤ look_count }
-    ensures { result ≡ any (is_on on.now) (up_from 8 from) }
-{
-    let mut found = false;
-    let mut k = 0;
-    while k < 8 {
-        found = on[from + k] | found;
-        k += 1;
-    }
-    found
-}
-
-// Where to go on from a look: eight looks at a time are passed while none of them is marked.
-fn skip_eights(on: &[bool; Look::COUNT], from: usize) -> usize
-    ensures { marked_from on.now from ≡ marked_from on.now result }
-{
-    let mut k = from;
-    while k <= Look::COUNT - 8 {
-        if any_of_eight(on, k) {
-            return k;
-        }
-        k += 8;
-    }
-    k
-}
-
-// The first marked look from the given one on, past the last if there is none.
-fn next_marked(on: &[bool; Look::COUNT], from: usize) -> usize
-    ensures { marked_from on.now from ≡ look_and_later on.now result }
-{
-    let mut k = skip_eights(on, from);
-    while k < Look::COUNT {
-        if on[k] {
-            return k;
-        }
-        k += 1;
-    }
-    k
+    w.put(b"<tt:style xml:id=\"");
+    put_style_name(w, look);
+    w.put(b"\" tts:color=\"");
+    put_colour_name(w, shown.colour);
+    w.put(b"\" tts:backgroundColor=\"");
+    put_colour_name(w, shown.background);
+    put_style_end(w, shown);
 }
 
 // The lines of the marked looks, each once, ascending.
-pub fn put_styles(out: &mut [u8], at: usize, marks: Marks) -> usize
-    ensures { Wrote out.old at (flat_map write_style (looks_marked marks.on)) out.new result }
+pub fn put_styles(w: &mut Writer, marks: &Marks)
+    ensures { Put w.old (flat_map write_style (looks_marked marks.now.on)) w.new }
 {
-    let mut p = at;
-    let mut look = next_marked(&marks.on, 0);
-    while look < Look::COUNT {
-        p = put_style(out, p, look as u16);
-        look = next_marked(&marks.on, look + 1);
+    // Read here, since the range of a field behind a reference is not known where nothing reads it and no look is marked.
+    prove!(w.at <= usize::MAX);
+    for (look, &on) in marks.on.iter().enumerate() {
+        if on {
+            put_style(w, look as u16);
+        }
     }
-    p
 }

@@ -1,16 +1,17 @@
 -- Rows and filler lines together are the content of a text; a text within the rules is not cut.
 -- Assumes nothing.
-use Prim.Native.Nat.{ℕ, suc, ◌-◌, ◌≤◌, ◌<◌, min}
+use Prim.Native.Nat.{ℕ, suc, ◌<◌, min}
 use native.Mathlib.Omega.{arith}
 use mathlib.Core.Path.{◌≡◌, refl, ap, ◌∙◌}
 use mathlib.Core.Bool.{Bool, true, false, ◌&&◌}
-use mathlib.Core.List.{List, [], ◌∷◌, map, flat_map}
+use mathlib.Core.List.{List, [], ◌∷◌, map}
 use lib.Dec.{eqb}
 use lib.ListN.{length, replicate, length-map}
 use lib.Seq.{take_all}
 use borrow.Author.Tests.{leb-true}
 use Rattle.meaning.specs.declared.Format.{Format}
 use Rattle.meaning.specs.declared.Lines.{Lines}
+use Rattle.meaning.specs.declared.Rows.{Rows}
 use Rattle.meaning.specs.declared.Token.{Token}
 use Rattle.meaning.specs.Lists.{all, keep}
 use Rattle.meaning.specs.Refusals.{is_good}
@@ -21,22 +22,14 @@ use Rattle.meaning.specs.declared.Look.{Look}
 use Rattle.meaning.specs.Looks.{white_on_black, pack, unpack}
 use Rattle.meaning.proofs.LookLaws.{white-bits, unpack-pack}
 use Rattle.meaning.specs.Cells.{Cell, row_start, cells_of_row, look_after_row, cell_rows}
-use Rattle.meaning.specs.Document.{write_piece}
 use Rattle.meaning.specs.Document.Piece.{br}
 use Rattle.meaning.specs.Conversion.{row_pieces, fillers, pieces}
 use Rattle.laws.proofs.Bounds.{cells-length, rows_fit_lem}
 use Rattle.meaning.proofs.ListLaws.{test_split}
-use Rattle.output.specs.Output.{Wrote}
 use Rattle.rows.specs.Scanning.{count_limit}
-use Rattle.text.specs.declared.Tally.{Tally}
-use Rattle.text.specs.declared.RowsLaid.{RowsLaid}
+use Rattle.text.specs.declared.BodyWriter.{BodyWriter}
 use Rattle.text.specs.Laid.{cut_row, content_of, PiecesLaid, RowsDone}
-use Rattle.text.proofs.Laws.{then_breaks}
-
--- no lines are left
-pub no_fillers : (end vp : ℕ) (covered : Lines) → end - vp ≤ covered.0 → record { 0 = 0 } ≡ fillers end vp covered
-unfolding fillers
-no_fillers end vp covered h = let z : 0 ≡ end - vp - covered.0 = omega arith in ap (λ (n : ℕ). record { 0 = n }) z
+use Rattle.text.proofs.Laws.{pieces_then}
 
 -- rows beyond the limit leave no filler line
 fillers-capped : (end vp : ℕ) → end < count_limit → (double : Bool) (n : ℕ) → (fillers end vp (lines_of double (record { 0 = min n count_limit }))).0 ≡ (fillers end vp (lines_of double (record { 0 = n }))).0
@@ -54,18 +47,18 @@ pub start-look : (double : Bool) {look : Look} {n : ℕ} → look ≡ white_on_b
 start-look double e k = rw (k, e) (unpack-pack (white_on_black double) (white-bits double))
 
 pub content_laid :
-    {text : List ℕ} (f : Format) (vp : ℕ) {double : Bool} {buf b1 b2 : List ℕ} {on on' : List Bool} {t : Tally} {l : RowsLaid} {lines fill : Lines} {q : ℕ}
-    {before : ℕ} → f.screen.end < count_limit → double ≡ is_double (tokens text) → unpack before ≡ white_on_black double → RowsDone text before (eqb f.mode 2 && double) buf on t b1 on' l
-    → lines ≡ lines_of double (record { 0 = l.rows }) → fill ≡ fillers f.screen.end vp lines → Wrote b1 l.tally.at (flat_map write_piece (replicate fill.0 br)) b2 q
-    → PiecesLaid buf on t (content_of f vp text) b2 on' (record { at = q; spans = l.tally.spans })
+    {text : List ℕ} (f : Format) (vp : ℕ) {double : Bool} {a b c : BodyWriter} {laid : Rows} {lines fill : Lines} {before : ℕ} → f.screen.end < count_limit
+    → double ≡ is_double (tokens text) → unpack before ≡ white_on_black double → RowsDone text before (eqb f.mode 2 && double) a b laid
+    → lines ≡ lines_of double laid → fill ≡ fillers f.screen.end vp lines → PiecesLaid b (replicate fill.0 br) c → PiecesLaid a (content_of f vp text) c
 unfolding content_of pieces row_count breaks_paired
-content_laid {text} f vp {double} {l = l} {fill = fill} short e h d g k p =
+content_laid {text} f vp {double} {laid = laid} {fill = fill} short e h d g k p =
     let ts = tokens text in
     let rs = rows_of (eqb f.mode 2 && double) ts in
     let cs = cell_rows (white_on_black double) rs in
+    let n : laid ≡ record { 0 = min (length rs) count_limit } = ap (λ (n : ℕ). record { 0 = n }) d.count in
     let m : fill.0 ≡ (fillers f.screen.end vp (lines_of double (record { 0 = length (map cut_row cs) }))).0 =
-    ap (λ (x : Lines). x.0) k ∙ rw (g, d.rows, length-map cs cut_row, rows-length (white_on_black double) rs) (fillers-capped f.screen.end vp short double (length rs)) in
-    rw (← e, ← m) (then_breaks (row_pieces (map cut_row cs)) fill.0 (rw h at d.laid) p)
+    ap (λ (x : Lines). x.0) k ∙ rw (g, n, length-map cs cut_row, rows-length (white_on_black double) rs) (fillers-capped f.screen.end vp short double (length rs)) in
+    rw (← e, ← m) (pieces_then (row_pieces (map cut_row cs)) (replicate fill.0 br) (rw h at d.laid) p)
 
 uncut : (l : Look) (r : List Token) → is_short r ≡ true → cut_row (cells_of_row l r) ≡ cells_of_row l r
 unfolding cut_row is_short

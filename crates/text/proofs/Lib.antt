@@ -1,4 +1,3 @@
 pub mod Laws
-pub mod RowLaying
 pub mod RowsLaying
 pub mod Content

@@ -1,97 +1,146 @@
--- The loop over the rows after the first, seen from the rows that are left.
+-- The loop over a row's spans, seen from those that were read; and the loop over the rows after the first, seen from the rows that
+-- are left.
 -- Assumes nothing.
 use Prim.Native.Nat.{ℕ, suc, ◌+◌, ◌≤◌, min}
 use native.Mathlib.Omega.{arith}
 use mathlib.Core.Path.{◌≡◌, sym, ap, ◌∙◌}
-use mathlib.Core.Bool.{Bool, true, false}
-use mathlib.Core.List.{List, ◌∷◌, map, flat_map}
-use lib.ListN.{length, drop}
+use mathlib.Core.Bool.{Bool}
+use mathlib.Core.List.{List, [], ◌∷◌, map, flat_map}
+use lib.ListN.{length, drop, take}
+use lib.Seq.{take_all, take-length}
+use Rattle.std.specs.Prelude.{Some, None}
+use Rattle.std.proofs.lemmas.List.{take-map}
+use Rattle.std.proofs.lemmas.Simd.{map-map}
+use Rattle.meaning.specs.declared.Look.{Look}
+use Rattle.meaning.specs.declared.Rows.{Rows}
 use Rattle.meaning.specs.declared.Token.{Token}
 use Rattle.meaning.specs.Codes.{tokens}
-use Rattle.meaning.specs.declared.Look.{Look}
 use Rattle.meaning.specs.Looks.{unpack}
-use Rattle.meaning.specs.Cells.{cells_of_row, look_after_row, cell_rows}
-use Rattle.meaning.specs.Document.{Piece, write_piece, looks_of}
+use Rattle.meaning.specs.Cells.{Cell, points, cells_of_row, look_after_row, cell_rows}
+use Rattle.meaning.specs.Spans.{spans}
+use Rattle.meaning.specs.Document.{Piece, looks_of}
 use Rattle.meaning.specs.Document.Piece.{span, br}
-use Rattle.meaning.specs.Conversion.{row_spans, later_rows, row_pieces}
-use Rattle.output.specs.Output.{Wrote}
-use Rattle.meaning.specs.Rows.{first_row, rows_of}
-use Rattle.rows.proofs.FirstRow.{after_row, rows_after}
+use Rattle.meaning.specs.Conversion.{span_of, row_spans, later_rows, row_pieces}
+use Rattle.meaning.specs.Rows.{first_row, rows_of, row_limit}
+use Rattle.meaning.proofs.Logic.{by_test, by_le}
 use Rattle.rows.specs.Scanning.{count_limit}
-use Rattle.rows.specs.Scanned.{is_ended, next_row_at}
+use Rattle.rows.specs.Scanned.{is_ended, next_row_at, row_end_after}
+use Rattle.rows.proofs.FirstRow.{rows_after}
 use Rattle.rows.proofs.Laws.{rows-first, rows-after, no_rows_after}
-use Rattle.rows.proofs.RowEnds.{rest-after, next-rows}
-use Rattle.text.specs.declared.Tally.{Tally}
-use Rattle.text.specs.declared.RowLaid.{RowLaid}
-use Rattle.text.specs.Laid.{cut_row, RowDone, RowsDone}
-use Rattle.text.proofs.Laws.{wrote_then, pieces_then, laid-here, LaidLeft, left-all, left_less, left-none}
+use Rattle.rows.proofs.RowEnds.{ended_at, not_ended, next-rows}
+use Rattle.cells.specs.declared.PackedCell.{PackedCell}
+use Rattle.cells.specs.declared.RowRead.{RowRead}
+use Rattle.cells.specs.Packed.{cell_of, cells_in}
+use Rattle.cells.specs.Decoded.{row_at, end_after, Decoded}
+use Rattle.cells.proofs.Laws.{decoded-cells, decoded-look}
+use Rattle.spans.specs.declared.Span.{Span}
+use Rattle.spans.specs.Spans.{with_look, read_of}
+use Rattle.text.specs.declared.BodyWriter.{BodyWriter}
+use Rattle.text.specs.Laid.{cut_row, Laid, PiecesLaid, RowDone, RowsDone, piece_of}
+use Rattle.text.proofs.Laws.{laid-here, pieces_then}
 
-module _ (text : List ℕ) (paired : Bool) where
-  -- the pieces of the rows after the first of a run of tokens, from the look after that row
-  abbrev pub after : Look → List Token → List Piece
+-- the pieces of spans that were read, where they are all spans of some cells
+abbrev piece_with : List Cell × ℕ → Piece
+piece_with r = span (record { look = r.1; characters = flat_map points r.0 })
+
+pub all-read : (cs : List Cell) (ss : List Span) → map read_of ss ≡ map with_look (spans cs) → map piece_of ss ≡ map span (map span_of (spans cs))
+unfolding span_of
+all-read cs ss e =
+    sym (map-map piece_with read_of ss) ∙ ap (map piece_with) e ∙ map-map piece_with with_look (spans cs) ∙ sym (map-map span span_of (spans cs))
+
+-- a row decoded into an array of a row's limit and laid
+cut-row : {A : Type 0} (xs : List A) → take (min (length xs) row_limit) xs ≡ take row_limit xs
+cut-row xs =
+    by_le (length xs) row_limit
+    (λ h. let m : min (length xs) row_limit ≡ length xs = omega arith in rw m (take-length xs ∙ sym (take_all row_limit xs h)))
+    (λ h. let m : min (length xs) row_limit ≡ row_limit = omega arith in rw m)
+
+ended-after : (text : List ℕ) (start : ℕ) → end_after text start ≡ row_end_after text start
+unfolding row_end_after
+ended-after text start = by_test (is_ended (tokens (drop start text))) (λ e. rw (e, row_end_after)) (λ e. rw (e, row_end_after))
+
+pub row_done :
+    {text : List ℕ} {start before n : ℕ} {cells cells' : List PackedCell} {a b : BodyWriter} {d : RowRead} → Decoded text start before cells cells' d
+    → length cells ≡ row_limit → n ≡ min d.cells row_limit → PiecesLaid a (map span (row_spans (cells_in (take n cells')))) b → RowDone text start before a b d
+unfolding cut_row
+row_done {text} {start} {before} {n} {cells' = cells'} {d = d} k h e p =
+    let row = row_at text start (unpack before) in
+    let c : cells_in (take n cells') ≡ take row_limit row =
+    sym (take-map cell_of n cells') ∙ decoded-cells before k n (omega (arith, e)) (omega (arith, e, h)) ∙ rw (e, k.count) (cut-row row) in
+    record { laid = rw c at p; after = k.after ∙ ended-after text start; look = decoded-look before k }
+
+module _ (text : List ℕ) (before : ℕ) (paired : Bool) where
+  -- the pieces of all rows, and of those after the first of a run of tokens, from the look after that row
+  abbrev whole : List Piece
+  whole = row_pieces (map cut_row (cell_rows (unpack before) (rows_of paired (tokens text))))
+
+  abbrev after : Look → List Token → List Piece
   after look ts = later_rows (map cut_row (cell_rows look (rows_after paired ts)))
 
-  -- `row` is what stands from the row laid last on; the rows after it are still to come
-  pub record RowsLeft (buf : List ℕ) (on : List Bool) (t : Tally) (first : ℕ) (out : List ℕ) (marks : List Bool) (s : Tally) (look : ℕ) (more : Bool) (next n : ℕ) : Type 0 where
-    pub row : List Token
-    pub ended : more ≡ is_ended row
-    pub rest : tokens (drop next text) ≡ after_row row
-    pub left : LaidLeft buf on t (after (unpack first) (tokens text)) out marks s (after (unpack look) row)
-    pub count : min (n + length (rows_after paired row)) count_limit ≡ min (length (rows_of paired (tokens text))) count_limit
+  abbrev row_from : ℕ → List Token
+  row_from i = tokens (drop i text)
+
+  -- `start` is where the row laid last starts; whoever lays those after it has laid all
+  pub record RowsLeft (a b : BodyWriter) (r : RowRead) (n : ℕ) : Type 0 where
+    pub start : ℕ
+    pub end : r.after ≡ row_end_after text start
+    pub here : Laid b [] [] b
+    pub onward : {c : BodyWriter} → PiecesLaid b (after (unpack r.look) (row_from start)) c → PiecesLaid a whole c
+    pub count : min (n + length (rows_after paired (row_from start))) count_limit ≡ min (length (rows_of paired (tokens text))) count_limit
     pub few : n ≤ count_limit
 
   -- the first row is laid
-  pub rows_all :
-      {before : ℕ} {buf out : List ℕ} {on marks : List Bool} {t : Tally} {r : RowLaid} → RowDone text 0 before buf on t out marks r
-      → RowsLeft out marks r.tally r.look out marks r.tally r.look r.ended r.next 1
-  rows_all {r = r} d =
-      record {
-        row = tokens text;
-        ended = d.ended;
-        rest = rest-after text 0 d.next;
-        left = left-all (after (unpack r.look) (tokens text)) (laid-here d.laid);
-        count = rw (rows-first paired (tokens text)) (ap (λ (n : ℕ). min n count_limit) (omega arith));
-        few = omega arith;
-      }
-
-  -- one row more
-  pub rows_less :
-      {buf out out₁ out₂ : List ℕ} {on marks marks' : List Bool} {t s : Tally} {first look : ℕ} {more : Bool} {next n start p m : ℕ} {r : RowLaid}
-      → RowsLeft buf on t first out marks s look more next n → more ≡ true → start ≡ next_row_at text paired next
-      → Wrote out s.at (write_piece br) out₁ p → RowDone text start look out₁ marks (record { at = p; spans = s.spans }) out₂ marks' r → m ≡ min (n + 1) count_limit
-      → RowsLeft buf on t first out₂ marks' r.tally r.look r.ended r.next m
-  unfolding later_rows cell_rows
-  rows_less {look = look} {next = next} {start = start} l e q b d k =
-      let us = tokens (drop start text) in
-      let o : rows_after paired l.row ≡ first_row us ∷ rows_after paired us =
-      rows-after paired l.row (sym l.ended ∙ e) ∙ ap (rows_of paired) (sym (next-rows text paired next l.row q l.rest)) ∙ rows-first paired us in
-      let c : length (rows_after paired l.row) ≡ suc (length (rows_after paired us)) = ap length o in
-      record {
-        row = us;
-        ended = d.ended;
-        rest = rest-after text start d.next;
-        left =
-            rw d.after
-            (left_less (br ∷ map span (row_spans (cut_row (cells_of_row (unpack look) (first_row us))))) (after (look_after_row (unpack look) (first_row us)) us)
-            (rw o at l.left) (unfold flat_map looks_of in wrote_then b d.laid));
-        count = rw k (omega (arith, l.count, c));
-        few = omega arith;
-      }
-
-  -- no row is left after the first that was laid and those after it
-  pub rows_none :
-      {before look : ℕ} {buf₀ buf out : List ℕ} {on₀ on marks : List Bool} {t₀ s : Tally} {r : RowLaid} {more : Bool} {next n : ℕ}
-      → RowDone text 0 before buf₀ on₀ t₀ buf on r → RowsLeft buf on r.tally r.look out marks s look more next n → more ≡ false
-      → RowsDone text before paired buf₀ on₀ t₀ out marks (record { tally = s; rows = n })
-  unfolding later_rows row_pieces cell_rows
-  rows_none {before} d l e =
+  pub rows_all : {a b : BodyWriter} {r : RowRead} → RowDone text 0 before a b r → RowsLeft a b r 1
+  unfolding row_pieces cell_rows
+  rows_all {a} {b} {r} d =
       let ts = tokens text in
-      let o = no_rows_after paired l.row (sym l.ended ∙ e) in
-      let c : length (rows_after paired l.row) ≡ 0 = ap length o in
       record {
-        laid =
+        start = 0;
+        end = d.after;
+        here = laid-here d.laid;
+        onward =
+            λ {c} l.
             rw (rows-first paired ts)
             (pieces_then (map span (row_spans (cut_row (cells_of_row (unpack before) (first_row ts))))) (after (look_after_row (unpack before) (first_row ts)) ts) d.laid
-            (rw d.after at (left-none (rw o at l.left))));
-        rows = omega (arith, l.count, l.few, c);
+            (rw d.look at l));
+        count = rw (rows-first paired ts) (ap (λ (n : ℕ). min n count_limit) (omega arith));
+        few = omega arith;
       }
+
+  module _ {a b : BodyWriter} {r : RowRead} {n : ℕ} (l : RowsLeft a b r n) where
+    -- one row more, after a break
+    pub rows_less :
+        {b1 b2 : BodyWriter} {r' : RowRead} {next start m : ℕ} → r.after ≡ Some next → start ≡ next_row_at text paired next → PiecesLaid b (br ∷ []) b1
+        → RowDone text start r.look b1 b2 r' → m ≡ min (n + 1) count_limit → RowsLeft a b2 r' m
+    unfolding later_rows cell_rows
+    rows_less {r' = r'} {next} {start} e s w d k =
+        let us = row_from start in
+        let ended = ended_at text l.start l.end e in
+        let here : us ≡ _ = next-rows text paired next (row_from l.start) s ended.rest in
+        let o : rows_after paired (row_from l.start) ≡ first_row us ∷ rows_after paired us =
+        rows-after paired (row_from l.start) ended.ended ∙ ap (rows_of paired) (sym here) ∙ rows-first paired us in
+        let size : length (rows_after paired (row_from l.start)) ≡ suc (length (rows_after paired us)) = ap length o in
+        record {
+          start = start;
+          end = d.after;
+          here = laid-here d.laid;
+          onward =
+              λ {c} p.
+              l.onward
+              (rw o
+              (pieces_then (br ∷ map span (row_spans (cut_row (cells_of_row (unpack r.look) (first_row us))))) (after (look_after_row (unpack r.look) (first_row us)) us)
+              (pieces_then (br ∷ []) (map span (row_spans (cut_row (cells_of_row (unpack r.look) (first_row us))))) w d.laid) (rw d.look at p)));
+          count = rw k (omega (arith, l.count, size));
+          few = omega arith;
+        }
+
+    -- no row is left
+    pub rows_none : {m : Rows} → r.after ≡ None → m.0 ≡ n → RowsDone text before paired a b m
+    unfolding later_rows cell_rows flat_map looks_of
+    rows_none e k =
+        let o = no_rows_after paired (row_from l.start) (not_ended text l.start l.end e) in
+        let c : length (rows_after paired (row_from l.start)) ≡ 0 = ap length o in
+        record {
+          laid = l.onward (rw o l.here);
+          count = omega (arith, l.count, l.few, c, k);
+        }

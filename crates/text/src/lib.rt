@@ -2,218 +2,156 @@
 
 #![tactic(auto)]
 
-ghost use Rattle.std.specs.Prelude.{◌≡◌, ◌-◌, ◌≤◌, length, take, drop, replicate};
-ghost use mathlib.Core.List.{[], ◌∷◌, map, flat_map};
+ghost use Rattle.std.specs.Prelude.{◌≡◌, replicate};
+ghost use mathlib.Core.List.{map, flat_map};
+ghost use Rattle.meaning.specs.Glyphs.{spelling};
+ghost use Rattle.meaning.specs.Cells.{points};
 ghost use Rattle.meaning.specs.Document.{escaped, write_piece};
 ghost use Rattle.meaning.specs.Document.Piece.{span, br};
 ghost use Rattle.meaning.specs.Conversion.{row_spans, fillers};
-ghost use Rattle.cells.specs.Arrays.{packed_points, cells_at};
-ghost use Rattle.spans.specs.Ranges.{cut};
-ghost use Rattle.output.specs.Output.{Wrote};
-ghost use Rattle.text.specs.Laid.{PiecesLaid, RowDone, RowsDone, content_of};
+ghost use Rattle.cells.specs.Packed.{cells_in};
+ghost use Rattle.output.specs.Output.{Put};
+ghost use Rattle.text.specs.Laid.{PiecesLaid, RowPut, RowDone, RowsDone, piece_of, content_of};
 
-use meaning::{Format, Lines, Look, ROW_LIMIT, Rows};
+use cells::{PackedCell, RowRead};
+use meaning::{Format, Glyph, Lines, Look, ROW_LIMIT, Rows};
+use output::Writer;
+use spans::{Span, Spans};
 
-// Where the next byte goes, and the spans so far.
+// Where the next byte of a body goes, and the spans so far: what is kept of a body between calls.
 #[derive(Clone, Copy)]
 pub struct Tally {
     pub at: usize,
     pub spans: usize,
 }
 
-// The code points of a packed character.
-fn put_character(out: &mut [u8], at: usize, character: u32) -> usize
-    ensures { Wrote out.old at (flat_map escaped (packed_points character)) out.new result }
-{
-    let glyph = cells::unpacked(character);
-    let p = xml::put_escaped(out, at, glyph.point);
-    if glyph.mark == 0 {
-        return p;
-    }
-    xml::put_escaped(out, p, glyph.mark)
+// A body that is laid: the writer of its bytes, the marks of the looks in use, and the spans so far. It is made as a literal:
+// the check then knows what the writer and the marks hold after it.
+#[derive(Drop)]
+pub struct BodyWriter<'w, 'a> {
+    pub writer: &'w mut Writer<'a>,
+    pub marks: &'w mut [bool],
+    pub spans: usize,
 }
 
-fn put_characters(out: &mut [u8], at: usize, characters: &[u32]) -> usize
-    ensures { Wrote out.old at (flat_map escaped (flat_map packed_points characters.now)) out.new result }
-{
-    let mut p = at;
-    let mut i = 0;
-    while i < characters.len() {
-        p = put_character(out, p, characters[i]);
-        i += 1;
-    }
-    p
-}
-
-// A span of the characters from one position up to another. Spans are counted, and their looks marked, here and nowhere
-// else.
-fn put_span(
-    out: &mut [u8],
-    marks: &mut [bool],
-    t: Tally,
-    characters: &[u32],
-    from: usize,
-    to: usize,
-    look: u16,
-) -> Tally
-    requires { (from ≤ to) × (to ≤ length characters.now) }
-    ensures { PiecesLaid out.old marks.old t (span (record { look = look; characters = flat_map packed_points (take (to - from) (drop from characters.now)) }) ∷ []) out.new marks.new result }
-{
-    let p = output::put(out, t.at, b"<tt:span style=\"");
-    let p = styles::put_style_name(out, p, look);
-    let p = output::put(out, p, b"\">");
-    let p = put_characters(out, p, &characters[from..to]);
-    let p = output::put(out, p, b"</tt:span>");
-    styles::mark(marks, look);
-    Tally {
-        at: p,
-        spans: output::after(t.spans, 1),
+impl<'w, 'a> BodyWriter<'w, 'a> {
+    pub fn tally(&self) -> Tally
+        ensures { result ≡ record { at = self.now.writer.now.at; spans = self.now.spans } }
+    {
+        Tally {
+            at: self.writer.at,
+            spans: self.spans,
+        }
     }
 }
 
-fn put_break(out: &mut [u8], at: usize) -> usize
-    ensures { Wrote out.old at (write_piece br) out.new result }
+fn put_character(w: &mut Writer, character: Glyph)
+    ensures { Put w.old (flat_map escaped (spelling character)) w.new }
 {
-    output::put(out, at, b"<tt:br/>")
+    xml::put_escaped(w, character.point);
+    if character.mark != 0 {
+        xml::put_escaped(w, character.mark);
+    }
+}
+
+fn put_characters(w: &mut Writer, cells: &[PackedCell])
+    ensures { Put w.old (flat_map escaped (flat_map points (cells_in cells.now))) w.new }
+{
+    // Read here and in the two loops below, since the range of a field behind a reference is not known where nothing reads it.
+    prove!(w.at <= usize::MAX);
+    for cell in cells {
+        put_character(w, cell.character);
+    }
+}
+
+fn put_span(w: &mut Writer, s: Span)
+    ensures { Put w.old (write_piece (piece_of s.entry)) w.new }
+{
+    w.put(b"<tt:span style=\"");
+    styles::put_style_name(w, s.look);
+    w.put(b"\">");
+    put_characters(w, s.cells);
+    w.put(b"</tt:span>");
+}
+
+#[tactic(auto, unfolding(meaning::specs::Document::write_piece, meaning::specs::Lists::bytes))]
+fn put_break(w: &mut Writer)
+    ensures { Put w.old (write_piece br) w.new }
+{
+    w.put(b"<tt:br/>");
 }
 
 // The filler lines between what a subtitle's rows cover and the end of the screen.
+#[tactic(auto, unfolding(meaning::specs::Conversion::fillers))]
 fn filler_lines(end: u8, vp: u8, covered: Lines) -> Lines
     ensures { result ≡ fillers end vp covered }
 {
-    if end <= vp {
-        return Lines(0);
-    }
-    let left = (end - vp) as u64;
-    if left <= covered.0 {
-        Lines(0)
-    } else {
-        Lines(left - covered.0)
-    }
+    let left = u64::from(end.saturating_sub(vp));
+    Lines(left.saturating_sub(covered.0))
 }
 
-fn put_breaks(out: &mut [u8], at: usize, n: u64) -> usize
-    ensures { Wrote out.old at (flat_map write_piece (replicate n br)) out.new result }
+fn put_breaks(w: &mut Writer, n: u64)
+    ensures { Put w.old (flat_map write_piece (replicate n br)) w.new }
 {
-    let mut p = at;
-    let mut k = 0;
-    while k < n {
-        p = put_break(out, p);
-        k += 1;
-    }
-    p
-}
-
-// The spans of what is shown of the first n cells of two arrays.
-fn put_row(
-    out: &mut [u8],
-    marks: &mut [bool],
-    t: Tally,
-    characters: &[u32],
-    looks: &[u16],
-    n: usize,
-) -> Tally
-    ensures { PiecesLaid out.old marks.old t (map span (row_spans (cells_at characters.now looks.now 0 (cut characters.now looks.now n)))) out.new marks.new result }
-{
-    let shown = spans::shown_range(characters, looks, n);
-    let end = shown.end;
-    let mut r = t;
-    let mut i = shown.start;
-    while i < end {
-        let s = spans::span_at(characters, looks, i, end);
-        r = put_span(out, marks, r, characters, i, s.end, s.look);
-        i = s.end;
-    }
-    r
-}
-
-// One row laid, whether a row end follows it, the position after that, and the look after the row, packed.
-#[derive(Clone, Copy)]
-struct RowLaid {
-    tally: Tally,
-    ended: bool,
-    next: usize,
-    look: u16,
-}
-
-fn lay_row(
-    out: &mut [u8],
-    marks: &mut [bool],
-    t: Tally,
-    text: &[u8],
-    start: usize,
-    before: u16,
-) -> RowLaid
-    ensures { RowDone text.now start before out.old marks.old t out.new marks.new result }
-{
-    let mut characters = [0u32; ROW_LIMIT];
-    let mut looks = [0u16; ROW_LIMIT];
-    let row = cells::decode_row(text, start, before, &mut characters, &mut looks);
-    let tally = put_row(out, marks, t, &characters, &looks, row.cells);
-    RowLaid {
-        tally,
-        ended: row.ended,
-        next: row.next,
-        look: row.look,
+    prove!(w.at <= usize::MAX);
+    for _ in 0..n {
+        put_break(w);
     }
 }
 
-// All rows laid, and their number.
-#[derive(Clone, Copy)]
-struct RowsLaid {
-    tally: Tally,
-    rows: u32,
+// The spans of what is shown of a row, and their number. Spans are counted, and their looks marked, here and nowhere else.
+fn put_row(w: &mut Writer, marks: &mut [bool], cells: &[PackedCell]) -> usize
+    ensures { RowPut w.old marks.old (map span (row_spans (cells_in cells.now))) w.new marks.new result }
+{
+    prove!(w.at <= usize::MAX);
+    let mut count = 0;
+    for s in Spans::new(spans::shown(cells)) {
+        put_span(w, s);
+        styles::mark(marks, s.look);
+        count = output::after(count, 1);
+    }
+    count
 }
 
-fn lay_rows(
-    out: &mut [u8],
-    marks: &mut [bool],
-    t: Tally,
-    text: &[u8],
-    before: u16,
-    paired: bool,
-) -> RowsLaid
-    ensures { RowsDone text.now before paired out.old marks.old t out.new marks.new result }
+// The count of a row's cells goes on past the array, so the row is not handed back as a slice.
+fn lay_row(body: &mut BodyWriter, text: &[u8], start: usize, before: u16) -> RowRead
+    ensures { RowDone text.now start before body.old body.new result }
 {
-    let first = lay_row(out, marks, t, text, 0, before);
-    let mut tally = first.tally;
-    let mut look = first.look;
-    let mut more = first.ended;
-    let mut next = first.next;
+    let mut cells = [PackedCell::EMPTY; ROW_LIMIT];
+    let row = cells::decode_row(text, start, before, &mut cells);
+    let taken = &cells[..row.cells.min(ROW_LIMIT)];
+    let count = put_row(body.writer, body.marks, taken);
+    body.spans = output::after(body.spans, count);
+    row
+}
+
+// All rows laid, with a line break between them; their number, up to a limit.
+fn lay_rows(body: &mut BodyWriter, text: &[u8], before: u16, paired: bool) -> Rows
+    ensures { RowsDone text.now before paired body.old body.new result }
+{
+    let mut row = lay_row(body, text, 0, before);
     let mut rows = 1;
-    while more {
-        let at = rows::row_after(text, paired, next);
-        tally.at = put_break(out, tally.at);
-        let row = lay_row(out, marks, tally, text, at, look);
-        tally = row.tally;
-        look = row.look;
-        more = row.ended;
-        next = row.next;
-        rows = rows::capped_sum(rows as usize, 1) as u32;
+    while let Some(after) = row.after {
+        put_break(body.writer);
+        let start = rows::row_after(text, paired, after);
+        row = lay_row(body, text, start, row.look);
+        rows = rows::capped_sum(rows, 1);
     }
-    RowsLaid { tally, rows }
+    // A capped sum fits a u32.
+    Rows(rows as u32)
 }
 
 // A set's text as the content of its paragraph: its rows with a line break between them, then one for each filler line.
 // A row is cut at the limit of rule 15.
-pub fn put_content(
-    out: &mut [u8],
-    marks: &mut [bool],
-    t: Tally,
-    text: &[u8],
-    f: Format,
-    vp: u8,
-) -> Tally
-    ensures { PiecesLaid out.old marks.old t (content_of f vp text.now) out.new marks.new result }
+pub fn put_content(body: &mut BodyWriter, text: &[u8], f: Format, vp: u8)
+    ensures { PiecesLaid body.old (content_of f vp text.now) body.new }
 {
     let screen = f.screen;
     let double = rows::is_double(text);
     let paired = f.is_paired(double);
     let look = Look::white_on_black(double);
-    let laid = lay_rows(out, marks, t, text, look.pack(), paired);
-    let lines = Rows(laid.rows).lines(double);
-    let mut tally = laid.tally;
+    let rows = lay_rows(body, text, look.pack(), paired);
+    let lines = rows.lines(double);
     let fillers = filler_lines(screen.end, vp, lines);
-    tally.at = put_breaks(out, tally.at, fillers.0);
-    tally
+    put_breaks(body.writer, fillers.0);
 }

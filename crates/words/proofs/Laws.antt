@@ -1,14 +1,17 @@
 -- The laws of numbers and truth values in bytes: what was written is read, and a reading is told by the bytes that it reads.
 -- Assumes nothing.
-use Prim.Native.Nat.{ℕ, zero, suc, ◌+◌, ◌*◌, ◌/◌, ◌^◌, ◌≤◌, ◌<◌}
-use native.Mathlib.Nat.{add-zero, add-suc, not-suc-le-zero, le_of_suc-le-suc}
+use Prim.Native.Nat.{ℕ, zero, suc, ◌+◌, ◌*◌, ◌-◌, ◌/◌, ◌^◌, ◌≤◌, ◌<◌, min}
+use native.Mathlib.Nat.{not-suc-le-zero, le_of_suc-le-suc}
 use native.Mathlib.Omega.{arith}
 use mathlib.Core.Path.{◌≡◌, refl, ap, ◌∙◌}
 use mathlib.Core.Bool.{Bool, true, false}
 use mathlib.Core.List.{List, [], ◌∷◌, ◌++◌, append_assoc, append-nil, flat_map}
-use lib.ListN.{length, get_or, take, drop, length-append, length-map, drop_of_length-le}
-use lib.Seq.{take-nil, drop-nil, take_at, drop_at, drop-drop, sets-eq}
+use lib.ListN.{length, get_or, take, drop, replicate, length-append, length-replicate, length-map, drop_of_length-le}
+use lib.Seq.{length-take-le, take-nil, drop-nil, take_all, take_at, drop_at, drop-drop, sets-eq}
+use Rattle.std.specs.Int.{w64, from_le_bytes, to_le_bytes}
+use Rattle.std.proofs.lemmas.List.{drop-replicate}
 use Rattle.meaning.specs.Lists.{field}
+use Rattle.meaning.proofs.Logic.{by_le}
 use Rattle.meaning.proofs.ListLaws.{All, nil, cons}
 use Rattle.output.specs.Output.{stored}
 use Rattle.output.proofs.Laws.{stored-fits}
@@ -26,33 +29,61 @@ value_next k i [] = rw (drop-nil i, take-nil k)
 value_next k zero (x ∷ s) = refl
 value_next k (suc i) (x ∷ s) = value_next k i s
 
-word_next : (k at j : ℕ) (s : List ℕ) → value_of (take (suc k) (drop (at + j) s)) ≡ get_or s (at + j) 0 + 256 * value_of (take k (drop (at + suc j) s))
-word_next k at j s = rw add-suc (value_next k (at + j) s)
-
--- eight bytes one by one; a byte that is missing is 0
-pub word_eight : (s : List ℕ) (at : ℕ)
-    → value_of (field at 8 s)
-    ≡ get_or s at 0
-    + 256 * (get_or s (at + 1) 0 + 256 * (get_or s (at + 2) 0 + 256 * (get_or s (at + 3) 0
-    + 256 * (get_or s (at + 4) 0 + 256 * (get_or s (at + 5) 0 + 256 * (get_or s (at + 6) 0 + 256 * get_or s (at + 7) 0))))))
-unfolding field value_of
-word_eight s at =
+-- eight bytes as a number, by std and by the definition
+pub le_value : (bs : List ℕ) → from_le_bytes w64 bs ≡ value_of (take 8 bs)
+unfolding value_of
+le_value bs =
     omega (
       arith,
-      rw add-zero at (word_next 7 at 0 s),
-      word_next 6 at 1 s,
-      word_next 5 at 2 s,
-      word_next 4 at 3 s,
-      word_next 3 at 4 s,
-      word_next 2 at 5 s,
-      word_next 1 at 6 s,
-      word_next 0 at 7 s,
+      value_next 7 0 bs,
+      value_next 6 1 bs,
+      value_next 5 2 bs,
+      value_next 4 3 bs,
+      value_next 3 4 bs,
+      value_next 2 5 bs,
+      value_next 1 6 bs,
+      value_next 0 7 bs,
     )
 
--- past the end there is no byte
-pub word_past : (s : List ℕ) (i : ℕ) → length s ≤ 8 * i → word_at i s ≡ 0
-unfolding word_at field value_of
-word_past s i h = rw (drop_of_length-le s h)
+-- a number as eight bytes
+pub le_bytes : (n : ℕ) → to_le_bytes w64 n ≡ word_bytes n
+unfolding low_bytes
+le_bytes n =
+    let a : n / 256 / 256 ≡ n / 65536 = omega arith in
+    let b : n / 65536 / 256 ≡ n / 16777216 = omega arith in
+    let c : n / 16777216 / 256 ≡ n / 4294967296 = omega arith in
+    let d : n / 4294967296 / 256 ≡ n / 1099511627776 = omega arith in
+    let e : n / 1099511627776 / 256 ≡ n / 281474976710656 = omega arith in
+    let f : n / 281474976710656 / 256 ≡ n / 72057594037927936 = omega arith in
+    rw (a, b, c, d, e, f)
+
+zeros_add_nothing : (k : ℕ) → value_of (replicate k 0) ≡ 0
+unfolding value_of
+zeros_add_nothing zero = refl
+zeros_add_nothing (suc k) = omega (arith, zeros_add_nothing k)
+
+filled_value : (bs : List ℕ) (k : ℕ) → value_of (bs ++ replicate k 0) ≡ value_of bs
+unfolding value_of
+filled_value [] k = zeros_add_nothing k
+filled_value (b ∷ bs) k = omega (arith, filled_value bs k)
+
+-- bytes of a word that may be cut, filled up with zeros
+pub word_filled : (bs : List ℕ) → length bs ≤ 8 → from_le_bytes w64 (bs ++ drop (length bs) (replicate 8 0)) ≡ value_of bs
+word_filled bs h =
+    let z = drop-replicate {X = ℕ} (length bs) 8 0 in
+    let l : length (bs ++ replicate (8 - length bs) 0) ≤ 8 = simp (length-append, length-replicate) (omega arith) in
+    rw (z, le_value (bs ++ replicate (8 - length bs) 0), take_all 8 (bs ++ replicate (8 - length bs) 0) l, filled_value bs (8 - length bs))
+
+pub word_room : (bs : List ℕ) → length bs ≤ 8 → length (take {A = ℕ} (length bs) (replicate 8 0)) ≡ length bs
+word_room bs h = length-take-le (length bs) (replicate {A = ℕ} 8 0) (omega (arith, length-replicate {A = ℕ} 8 0))
+
+-- a field too far to count starts past the end
+pub field_far : (s : List ℕ) (k : ℕ) → length s < 2 ^ 64 → field (min k 18446744073709551615) 8 s ≡ field k 8 s
+unfolding field
+field_far s k h =
+    by_le k 18446744073709551615
+    (λ l. let e : min k 18446744073709551615 ≡ k = omega arith in rw e)
+    (λ l. rw (drop_of_length-le s {i = min k 18446744073709551615} (omega arith), drop_of_length-le s {i = k} (omega arith)))
 
 -- the list of the numbers has each number at its place
 pub words-read : (n : ℕ) (s : List ℕ) (i : ℕ) → i < n → get_or (words n s) i 0 ≡ word_at i s

@@ -1,7 +1,6 @@
 -- What the loops keep that store a number's bytes and truth values one by one.
 -- Assumes nothing.
-use Prim.Native.Nat.{ℕ, suc, ◌+◌, ◌-◌, ◌/◌, ◌%◌, ◌≤◌, ◌<◌, min}
-use native.Mathlib.Nat.{add-zero}
+use Prim.Native.Nat.{ℕ, suc, ◌+◌, ◌-◌, ◌≤◌, ◌<◌, min}
 use native.Mathlib.Numerals.{add-one}
 use native.Mathlib.Omega.{arith}
 use mathlib.Core.Path.{◌≡◌, refl, sym, ◌∙◌}
@@ -12,32 +11,17 @@ use lib.Seq.{sets, set_out, drop-cons}
 use Rattle.meaning.proofs.Logic.{by_le}
 use Rattle.output.specs.Output.{stored}
 use Rattle.output.proofs.Laws.{stored-out}
-use Rattle.words.specs.Words.{low_bytes, word_bytes}
+use Rattle.output.proofs.Storing.{Storing, storing_done, storing_cut}
 use Rattle.words.specs.Flags.{is_set, flags_in, flags_over}
 use Rattle.words.proofs.Laws.{flags_in_length}
 
--- j bytes of n are stored, and rest is what is left of it: storing its bytes gives what storing all gives
-pub record Laying (s₀ : List ℕ) (at n : ℕ) (s : List ℕ) (rest j : ℕ) : Type 0 where
-  pub same : length s ≡ length s₀
-  pub held : stored s (at + j) (low_bytes (8 - j) rest) ≡ stored s₀ at (word_bytes n)
-
-pub laying_all : (s : List ℕ) (at n : ℕ) → Laying s at n s n 0
-laying_all s at n = record { same = refl; held = rw add-zero }
-
-module _ {s₀ s : List ℕ} {at n rest j : ℕ} (l : Laying s₀ at n s rest j) where
-  pub laying_more : j < 8 → Laying s₀ at n (set s (at + j) (rest % 256)) (rest / 256) (j + 1)
-  unfolding stored low_bytes
-  laying_more h =
-      let e : 8 - j ≡ suc (8 - (j + 1)) = omega arith in
-      let f : at + (j + 1) ≡ suc (at + j) = omega arith in
-      record { same = simp length-set l.same; held = rw f (rw e at l.held) }
-
-  pub laying_done : j ≡ min 8 (length s - at) → s ≡ stored s₀ at (word_bytes n)
-  unfolding stored low_bytes
-  laying_done e =
-      by_le 8 j
-      (λ h. let z : 8 - j ≡ 0 = omega arith in rw z at l.held)
-      (λ h. sym (stored-out s (at + j) (low_bytes (8 - j) rest) (omega arith)) ∙ l.held)
+-- as many bytes are stored as there are or fit
+pub storing_end :
+    {array₀ values array : List ℕ} {k j : ℕ} → Storing array₀ k values array j → j ≡ min (length values) (length array - k) → array ≡ stored array₀ k values
+storing_end {array₀} {values} {array} {k} {j} a e =
+    by_le (length values) j
+    (λ h. storing_done a h)
+    (λ h. storing_cut a (stored-out array (k + j) (drop j values) (omega arith)))
 
 sets_out : (on : List Bool) (i : ℕ) (xs : List Bool) → length on ≤ i → sets on i xs ≡ on
 sets_out on i [] h = refl

@@ -4,10 +4,11 @@ use Prim.Native.Nat.{ℕ, zero, suc, ◌+◌, ◌≤◌, ◌<◌}
 use native.Mathlib.Omega.{arith}
 use native.Mathlib.Numerals.{add-one}
 use mathlib.Core.Path.{◌≡◌, refl, sym, ap, ◌∙◌}
-use mathlib.Core.Bool.{Bool, true}
+use mathlib.Core.Bool.{true}
 use mathlib.Core.List.{List}
 use mathlib.Core.Option.{some, some-injective}
 use lib.ListN.{length}
+use Rattle.std.specs.Prelude.{Result, Ok, Err, None}
 use Rattle.meaning.specs.declared.Refusal.{Refusal}
 use Rattle.meaning.specs.declared.Counts.{Counts}
 use Rattle.meaning.specs.declared.Format.{Format}
@@ -21,47 +22,40 @@ use Rattle.meaning.proofs.Logic.{by_test, none_not_some}
 use Rattle.laws.proofs.Steps.{walk_more}
 use Rattle.laws.proofs.Gathering.{refused-not}
 use Rattle.laws.proofs.Walk.{Bounded, BoundedAfter, bounded_more, advance-fits}
-use Rattle.text.specs.declared.Tally.{Tally}
 use Rattle.sets.specs.declared.Set.{Set}
-use Rattle.sets.specs.declared.Current.TheVariants.{Between}
 use Rattle.sets.specs.declared.Sets.{Sets}
 use Rattle.sets.specs.declared.Step.{Step}
-use Rattle.sets.specs.declared.Step.TheVariants.{NoRoom, Broken, Pending, Closed}
+use Rattle.sets.specs.declared.Step.TheVariants.{NoRoom, Pending, Closed}
 use Rattle.sets.specs.Assembling.{set_of, current_of, assembly_of, event_of, has_room, room_for, step_in, text_after}
 use Rattle.sets.proofs.Laws.{step-event, text-kept}
 use Rattle.sets.proofs.Rooms.{room-left}
-use Rattle.writing.specs.declared.Writing.{Writing}
 use Rattle.closed.specs.Body.{Body, lay_set}
 use Rattle.writing.specs.Laying.{Laying, lay_event, lay_blocks, laying_of}
 
 -- one block more, by the step that it made
-module _ (f : Format) (place : ℕ) (b : List ℕ) (w : Writing) (text out : List ℕ) (marks : List Bool) {text' : List ℕ} (room : has_room b w.sets text ≡ true) {st : Step} (m : (st ≡ step_in f place b w.sets text) × (text' ≡ text_after b w.sets text)) where
-  -- what is promised of the state after it
-  abbrev Stepped : Laying → Type 0
-  Stepped l = l ≡ lay_event f (laying_of w text out marks) (advance f place b (assembly_of w.sets text))
+module _ (f : Format) (place : ℕ) (b : List ℕ) (w : Sets) (text : List ℕ) (body : Body) {text' : List ℕ} (room : has_room b w text ≡ true) {st : Result Step Refusal} (m : (st ≡ step_in f place b w text) × (text' ≡ text_after b w text)) where
+  -- what is promised of the sets and of what is laid after it
+  abbrev Stepped : Sets → Body → Type 0
+  Stepped s body' = laying_of s text' body' ≡ lay_event f (laying_of w text body) (advance f place b (assembly_of w text))
 
-  event : some (advance f place b (assembly_of w.sets text)) ≡ event_of st text'
-  event = step-event f place b w.sets text room m
+  event : some (advance f place b (assembly_of w text)) ≡ event_of st text'
+  event = step-event f place b w text room m
 
-  pub on-full : st ≡ NoRoom → Stepped (laying_of w text' out marks)
+  pub on-broken : {q : Refusal} → st ≡ Err q → Stepped w body
+  unfolding event_of lay_event laying_of
+  on-broken e = rw (some-injective _ _ (rw e at event), text-kept f place b w text room m)
+
+  pub on-full : st ≡ Ok NoRoom → Stepped w body
   unfolding event_of
   on-full e = absurd (none_not_some (sym (rw e at event)))
 
-  pub on-broken : {q : Refusal} → st ≡ Broken q → Stepped (laying_of w text' out marks)
-  unfolding event_of lay_event laying_of
-  on-broken e = rw (some-injective _ _ (rw e at event), text-kept f place b w.sets text room m)
-
-  pub on-pending : {s : Sets} → st ≡ Pending s → Stepped (laying_of (record { sets = s; tally = w.tally }) text' out marks)
+  pub on-pending : {s : Sets} → st ≡ Ok (Pending s) → Stepped s body
   unfolding event_of lay_event laying_of
   on-pending e = rw (some-injective _ _ (rw e at event))
 
-  pub on-closed :
-      {set : Set} {s : Sets} → st ≡ Closed set s → {out' : List ℕ} {marks' : List Bool} {u : Tally}
-      → record { out = out'; marks = marks'; tally = u } ≡ lay_set f (set_of set text') (record { out = out; marks = marks; tally = w.tally })
-      → Stepped (laying_of (record { sets = s; tally = u }) text' out' marks')
+  pub on-closed : {set : Set} {s : Sets} → st ≡ Ok (Closed set s) → Stepped s (lay_set f (set_of set text') body)
   unfolding event_of lay_event laying_of
-  on-closed {s = s} e l =
-      rw (some-injective _ _ (rw e at event)) (ap (λ (p : Body). record { assembly = assembly_of s text'; body = p }) l)
+  on-closed e = rw (some-injective _ _ (rw e at event))
 
 module _ (f : Format) (file : List ℕ) (body : Body) where
   -- the set that is open is short
@@ -80,42 +74,32 @@ module _ (f : Format) (file : List ℕ) (body : Body) where
 
   -- after k of n blocks, with a text buffer of some size
   module _ (n room : ℕ) where
-    pub record Written (text out : List ℕ) (marks : List Bool) (w : Writing) (k : ℕ) : Type 0 where
-      pub few : k ≤ n
+    pub record Written (text : List ℕ) (p : Body) (s : Sets) (k : ℕ) : Type 0 where
       pub long : length text ≡ room
-      pub same : length out ≡ length body.out
-      pub marked : length marks ≡ length body.marks
-      pub stands : laying_of w text out marks ≡ lay_blocks f file body k
+      pub stands : laying_of s text p ≡ lay_blocks f file body k
 
-    pub written_none :
-        (text : List ℕ) → length text ≡ room
-        → Written text body.out body.marks (record { sets = record { least = 0; current = Between }; tally = body.tally }) 0
+    pub written_none : (text : List ℕ) → length text ≡ room → Written text body (record { least = 0; current = None }) 0
     unfolding lay_blocks laying_of no_blocks assembly_of current_of
-    written_none text l = record { few = omega arith; long = l; same = refl; marked = refl; stands = refl }
+    written_none text l = record { long = l; stands = refl }
 
-    module _ {text out : List ℕ} {marks : List Bool} {w : Writing} {k : ℕ} (l : Written text out marks w k) where
-      pub written-ready : (b : List ℕ) → room_for n ≤ room → k < n → has_room b w.sets text ≡ true
+    module _ {text : List ℕ} {p : Body} {s : Sets} {k : ℕ} (l : Written text p s k) where
+      pub written-ready : (b : List ℕ) → room_for n ≤ room → k < n → has_room b s text ≡ true
       unfolding laying_of
-      written-ready b r h = room-left k text (omega (arith, l.long)) b w.sets (rw (sym l.stands) at (laying_fits k))
+      written-ready b r h = room-left k text (omega (arith, l.long)) b s (rw (sym l.stands) at (laying_fits k))
 
       pub written-more :
-          {b text' out' : List ℕ} {marks' : List Bool} {r : Writing} → k < n → b ≡ block_at file k → length text' ≡ length text
-          → length out' ≡ length out → length marks' ≡ length marks
-          → laying_of r text' out' marks' ≡ lay_event f (laying_of w text out marks) (advance f k b (assembly_of w.sets text))
-          → Written text' out' marks' r (k + 1)
+          {b text' : List ℕ} {p' : Body} {s' : Sets} → b ≡ block_at file k → length text' ≡ length text
+          → laying_of s' text' p' ≡ lay_event f (laying_of s text p) (advance f k b (assembly_of s text)) → Written text' p' s' (k + 1)
       unfolding lay_blocks laying_of
-      written-more h d x y z s =
+      written-more d x z =
           record {
-            few = omega arith;
             long = x ∙ l.long;
-            same = y ∙ l.same;
-            marked = z ∙ l.marked;
-            stands = s ∙ rw (add-one, d) (ap (λ (q : Laying). lay_event f q (advance f k (block_at file k) q.assembly)) l.stands);
+            stands = z ∙ rw (add-one, d) (ap (λ (q : Laying). lay_event f q (advance f k (block_at file k) q.assembly)) l.stands);
           }
 
-      pub written_all : n ≤ k → record { out = out; marks = marks; tally = w.tally } ≡ (lay_blocks f file body n).body
+      pub written_all : k ≡ n → p ≡ (lay_blocks f file body n).body
       unfolding laying_of
-      written_all h = let z : k ≡ n = omega (arith, l.few) in ap (λ (q : Laying). q.body) (rw z at l.stands)
+      written_all z = ap (λ (q : Laying). q.body) (rw z at l.stands)
 
 -- a walk that accepts lays the same
 module _ (f : Format) (rule : BlockSet → Refusal) (file : List ℕ) (body : Body) where

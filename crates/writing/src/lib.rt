@@ -6,86 +6,55 @@
 ghost use Rattle.std.specs.Prelude.{◌≡◌, true, ◌≤◌, length};
 ghost use Rattle.meaning.specs.Sets.{advance};
 ghost use Rattle.sets.specs.Assembling.{assembly_of, has_room, room_for};
+ghost use Rattle.closed.specs.Body.{body_of, KeepsBuffers};
 ghost use Rattle.writing.specs.Laying.{lay_event, lay_blocks, laying_of};
 
-use closed::lay;
+use closed::{lay, with_text_room};
 use meaning::Format;
 use sets::{Sets, Step};
-use text::Tally;
-
-// The sets so far, and how much is laid.
-#[derive(Clone, Copy)]
-struct Writing {
-    sets: Sets,
-    tally: Tally,
-}
+use text::BodyWriter;
 
 fn write_block(
     f: Format,
     place: u64,
     bytes: &[u8],
     text: &mut [u8],
-    out: &mut [u8],
-    marks: &mut [bool],
-    w: Writing,
-) -> Writing
-    requires { has_room bytes.now w.sets text.old ≡ true }
-    ensures { laying_of result text.new out.new marks.new ≡ lay_event f (laying_of w text.old out.old marks.old) (advance f place bytes.now (assembly_of w.sets text.old)) }
+    body: &mut BodyWriter,
+    sets: Sets,
+) -> Sets
+    requires { has_room bytes.now sets text.old ≡ true }
+    ensures laid { laying_of result text.new (body_of body.new) ≡ lay_event f (laying_of sets text.old (body_of body.old)) (advance f place bytes.now (assembly_of sets text.old)) }
+    ensures buffers { KeepsBuffers body.old body.new }
 {
-    let tally = w.tally;
-    let step = sets::advance(f, place, bytes, text, w.sets);
-    match step {
-        Step::NoRoom => w,
-        Step::Broken(_) => w,
-        Step::Pending(sets) => Writing { sets, tally },
-        Step::Closed(set, sets) => {
-            let tally = lay(f, text, out, marks, set, tally);
-            Writing { sets, tally }
+    match sets::advance(f, place, bytes, text, sets) {
+        Ok(Step::Pending(next)) => next,
+        Ok(Step::Closed(set, next)) => {
+            lay(f, text, body, set);
+            next
         }
+        Ok(Step::NoRoom) => sets,
+        Err(_) => sets,
     }
 }
 
 // The first n blocks, with a text buffer that has room for their texts.
-fn write_all(
-    file: &[u8],
-    n: usize,
-    f: Format,
-    text: &mut [u8],
-    out: &mut [u8],
-    marks: &mut [bool],
-    t: Tally,
-) -> Tally
+fn write_all(file: &[u8], n: usize, f: Format, text: &mut [u8], body: &mut BodyWriter)
     requires { room_for n ≤ length text.old }
-    ensures { record { out = out.exit.now; marks = marks.new; tally = result } ≡ (lay_blocks f file.now (record { out = out.entry.now; marks = marks.old; tally = t }) n).body }
+    ensures laid { body_of body.new ≡ (lay_blocks f file.now (body_of body.old) n).body }
+    ensures buffers { KeepsBuffers body.old body.new }
 {
-    let mut w = Writing {
-        sets: Sets::NONE,
-        tally: t,
-    };
-    let mut k = 0;
-    while k < n {
+    let mut sets = Sets::NONE;
+    // By number: past the file's end a block is empty, which `chunks` does not give.
+    for k in 0..n {
         let bytes = block::bytes_at(file, k);
-        w = write_block(f, k as u64, bytes, text, out, marks, w);
-        k += 1;
+        sets = write_block(f, k as u64, bytes, text, body, sets);
     }
-    w.tally
 }
 
 // The first n blocks of any file.
-pub fn write_blocks(
-    file: &[u8],
-    n: usize,
-    f: Format,
-    out: &mut [u8],
-    marks: &mut [bool],
-    t: Tally,
-) -> Tally
-    ensures { record { out = out.exit.now; marks = marks.new; tally = result } ≡ (lay_blocks f file.now (record { out = out.entry.now; marks = marks.old; tally = t }) n).body }
+pub fn write_blocks(file: &[u8], n: usize, f: Format, body: &mut BodyWriter)
+    ensures laid { body_of body.new ≡ (lay_blocks f file.now (body_of body.old) n).body }
+    ensures buffers { KeepsBuffers body.old body.new }
 {
-    if n <= Sets::FEW {
-        let mut text = [0u8; Sets::FEW_ROOM];
-        return write_all(file, n, f, &mut text, out, marks, t);
-    }
-    let mut text = [0u8; Sets::ROOM];
-    write_all(file, n, f, &mut text, out, marks, t)
+    with_text_room(n, body, |text, body| write_all(file, n, f, text, body))
 }

@@ -4,7 +4,9 @@
 
 ghost use Rattle.std.specs.Prelude.{◌≡◌, ◌⊎◌, ◌+◌, ◌%◌};
 ghost use Rattle.meaning.specs.Document.{utf8, escaped};
-ghost use Rattle.output.specs.Output.{Wrote};
+ghost use Rattle.output.specs.Output.{Put};
+
+use output::Writer;
 
 // A byte of UTF-8 after the first: six bits.
 fn continuation(c: u16) -> u8
@@ -13,45 +15,52 @@ fn continuation(c: u16) -> u8
     (128 + c % 64) as u8
 }
 
-fn put_utf8(out: &mut [u8], at: usize, c: u16) -> usize
-    ensures { Wrote out.old at (utf8 c) out.new result }
+fn put_utf8(w: &mut Writer, c: u16)
+    ensures { Put w.old (utf8 c) w.new }
 {
     if c < 128 {
-        return output::put_byte(out, at, c as u8);
+        w.put_byte(c as u8);
+    } else if c < 2048 {
+        w.put_byte((192 + c / 64) as u8);
+        w.put_byte(continuation(c));
+    } else {
+        w.put_byte((224 + c / 4096) as u8);
+        w.put_byte(continuation(c / 64));
+        w.put_byte(continuation(c));
     }
-    if c < 2048 {
-        let p = output::put_byte(out, at, (192 + c / 64) as u8);
-        return output::put_byte(out, p, continuation(c));
-    }
-    let p = output::put_byte(out, at, (224 + c / 4096) as u8);
-    let p = output::put_byte(out, p, continuation(c / 64));
-    output::put_byte(out, p, continuation(c))
 }
 
 // The name of a character that XML keeps for itself.
-fn put_entity(out: &mut [u8], at: usize, c: u16) -> usize
+fn put_entity(w: &mut Writer, c: u16)
     requires { (c ≡ 38) ⊎ ((c ≡ 60) ⊎ (c ≡ 62)) }
-    ensures { Wrote out.old at (escaped c) out.new result }
+    ensures { Put w.old (escaped c) w.new }
 {
-    if c == 38 {
-        return output::put(out, at, b"&amp;");
+    match c {
+        38 => w.put(b"&amp;"),
+        60 => w.put(b"&lt;"),
+        _ => w.put(b"&gt;"),
     }
-    if c == 60 {
-        return output::put(out, at, b"&lt;");
-    }
-    output::put(out, at, b"&gt;")
 }
 
-// 20h and 3Fh to 7Eh come first, told by one test: a branch that most characters take. The names' texts stand in a
-// function of their own, since a function lays its texts out at every call.
-pub fn put_escaped(out: &mut [u8], at: usize, c: u16) -> usize
-    ensures { Wrote out.old at (escaped c) out.new result }
+// Any other character than those that put_escaped tells by its test. It stands apart so that put_escaped is little enough to be
+// compiled into a loop.
+#[inline(never)]
+fn put_other(w: &mut Writer, c: u16)
+    ensures { Put w.old (escaped c) w.new }
+{
+    match c {
+        38 | 60 | 62 => put_entity(w, c),
+        _ => put_utf8(w, c),
+    }
+}
+
+// 20h and 3Fh to 7Eh come first, told by one test: a branch that most characters take.
+#[inline(always)]
+pub fn put_escaped(w: &mut Writer, c: u16)
+    ensures { Put w.old (escaped c) w.new }
 {
     if (c == 32) | ((63 <= c) & (c < 127)) {
-        return output::put_byte(out, at, c as u8);
+        return w.put_byte(c as u8);
     }
-    match c {
-        38 | 60 | 62 => put_entity(out, at, c),
-        _ => put_utf8(out, at, c),
-    }
+    put_other(w, c);
 }

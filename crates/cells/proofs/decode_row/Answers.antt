@@ -1,9 +1,9 @@
--- `decode_row` hides in hindsight what stands in front of a row's first box code.
--- Assumes nothing.
+use mathlib.Core.Path.{refl}
+use Rattle.std.proofs.Common.{rules}
 use Rattle.cells.proofs.Hiding.{decoded}
 use Rattle.cells.proofs.decode_row.Goals as goal
 
 pub returns : goal.returns
 returns c =
-    let d = c.draw_row-drawn.ensures in
-    decoded _ d.row d.front c.put_hidden.ensures
+    let drawn = c.draw-after.ensures.drawn in
+    decoded _ (search (rules, drawn.same, c.hide_front.ensures.same)) c.at_row_start.ensures refl refl drawn c.hide_front.ensures c.draw-after.ensures.after

@@ -1,8 +1,9 @@
--- `pair_token` gives the token of an accent and the code after it.
--- Assumes nothing.
-use Rattle.meaning.specs.Codes.{pair_token}
+use mathlib.Core.Path.{sym, ◌∙◌}
+use Rattle.charset.proofs.Points.{some-token, no-token}
 use Rattle.charset.proofs.pair_token.Goals as goal
 
-pub returns : goal.returns
-unfolding pair_token
-returns c = cc
+pub returns-in-Some : goal.returns-in-Some
+returns-in-Some c = some-token _ (sym c.pair.ensures ∙ c.in-Some.is)
+
+pub returns-in-None : goal.returns-in-None
+returns-in-None c = no-token _ (sym c.pair.ensures ∙ c.in-None.is)

@@ -1,7 +1,12 @@
--- `refusal` has number and place of the answer, and the offset that pass one tells.
+-- `refusal` tells the rule by what was examined.
 -- Assumes nothing.
-use Rattle.convert.proofs.Converting.{refusal-told}
+use Rattle.std.proofs.Common.{sym, ap, ◌∙◌}
+use Rattle.convert.proofs.Answering.{ruled}
+use Rattle.convert.proofs.Converting.{ruled_examined}
 use Rattle.convert.proofs.refusal.Goals as goal
 
-pub returns : goal.returns
-returns c = let e = c.examine-examined.ensures in refusal-told _ _ _ e.answer e.offset
+pub returns-in-Ok : goal.returns-in-Ok
+returns-in-Ok c = ap ruled (sym c.in-Ok.is ∙ c.examine.ensures) ∙ ruled_examined _ _ _
+
+pub returns-in-Err : goal.returns-in-Err
+returns-in-Err c = ap ruled (sym c.in-Err.is ∙ c.examine.ensures) ∙ ruled_examined _ _ _

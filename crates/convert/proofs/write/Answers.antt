@@ -1,10 +1,10 @@
 -- `write` lays head, paragraphs and tail one after the other.
 -- Assumes nothing.
-use native.Mathlib.Omega.{arith}
-use Rattle.convert.proofs.Converting.{document-written}
+use Rattle.std.proofs.Common.{rules}
+use Rattle.convert.proofs.Converting.{document_written}
 use Rattle.convert.proofs.write.Goals as goal
 
 pub returns : goal.returns
 returns c =
-    document-written _ _ _ _ _ c.format-f.ensures c.block_count-n.ensures c.put_head-at.ensures (omega arith)
-    c.write_blocks-tally.ensures c.put_tail.ensures
+    document_written _ _ _ _ _ _ _ _ c.format-f.ensures c.block_count.ensures c.put_head.ensures (search rules) (search rules)
+    c.write_blocks.ensures.laid (search rules) (search rules) c.put_tail.ensures (search rules) (search rules) (search rules)

@@ -8,14 +8,14 @@ use Rattle.meaning.specs.Document.{alignment_name}
 use Rattle.meaning.specs.Lists.{bytes}
 use Rattle.document.proofs.put_alignment.Goals as goal
 
-pub returns-then-jc-lt2 : goal.returns-then-jc-lt2
+pub returns-in-0 : goal.returns-in-0
 unfolding alignment_name bytes
-returns-then-jc-lt2 c = let h : c.args.jc < 2 = omega arith in rw (align_left _ h) c.put.ensures
+returns-in-0 c = let h : c.args.jc < 2 = omega arith in rw (align_left _ h) c.put-in-0.ensures
 
-pub returns-then-jc-eq2 : goal.returns-then-jc-eq2
+pub returns-in-2 : goal.returns-in-2
 unfolding alignment_name alignment_of bytes
-returns-then-jc-eq2 c = rw c.if-jc-eq2.true c.put-then-jc-eq2.ensures
+returns-in-2 c = rw c.in-2.is c.put.ensures
 
-pub returns : goal.returns
+pub returns-in_default : goal.returns-in_default
 unfolding alignment_name bytes
-returns c = let h : 2 < c.args.jc = omega arith in rw (align_right _ h) c.put-2.ensures
+returns-in_default c = let h : 2 < c.args.jc = omega arith in rw (align_right _ h) c.put-in_default.ensures

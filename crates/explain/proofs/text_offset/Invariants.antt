@@ -6,7 +6,4 @@ use Rattle.meaning.specs.Reasons.{text_offset}
 use Rattle.explain.proofs.text_offset.Given as goal
 
 abbrev pub invariant-loop-k : goal.invariant-loop-k
-invariant-loop-k l = text_offset l.file (l.n - l.k) l.k l.left ≡ text_offset l.file (l.n - l.place) l.place l.i
-
-abbrev pub decreases-loop-k : goal.decreases-loop-k
-decreases-loop-k l = l.n - l.k
+invariant-loop-k l = text_offset l.file (l.k-end - l.k) l.k l.left ≡ text_offset l.file (l.k-end - l.place) l.place l.i

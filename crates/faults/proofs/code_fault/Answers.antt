@@ -1,24 +1,41 @@
 use native.Mathlib.Omega.{arith}
-use mathlib.Core.Path.{ap}
+use mathlib.Core.Path.{sym, ap, ◌∙◌}
 use mathlib.Core.Bool.{not}
-use Rattle.charset.proofs.Laws.{read-on}
+use Rattle.charset.specs.Readings.{readings_left}
+use Rattle.charset.proofs.Positions.{first-reading, readings-none}
+use Rattle.charset.proofs.Laws.{first-on}
 use Rattle.faults.proofs.TokenSearch.{codes-start, codes-found, codes-more, codes-end}
 use Rattle.faults.proofs.code_fault.Goals as goal
 
 pub loop-at-init : goal.loop-at-init
-loop-at-init c = codes-start _ _
+loop-at-init c =
+    record {
+      at = 0;
+      readings = ap readings_left c.into_iter-at-iterator.ensures.into_iter_gives ∙ c.new-at-items.ensures;
+      within = omega arith;
+      codes = codes-start _ _;
+    }
 
 pub returns-then-not-is_listed : goal.returns-then-not-is_listed
 returns-then-not-is_listed c =
-    codes-found c.loop-at.invariant (read-on c.reading_at-read.ensures c.loop-at-test.true) c.is_listed.ensures (ap not c.if-not-is_listed.true)
-
-pub loop-at-smaller : goal.loop-at-smaller
-loop-at-smaller c =
-    omega (arith, read-on c.reading_at-read.ensures c.loop-at-test.true)
+    let l = c.loop-at.invariant in
+    let x = first-reading c.args.text.now l.at (sym l.readings ∙ c.in-Some.ensures.steps) in
+    x.here ∙ codes-found l.codes (first-on x) c.is_listed.ensures (ap not c.if-not-is_listed.true)
 
 pub loop-at-preserved : goal.loop-at-preserved
 loop-at-preserved c =
-    codes-more c.loop-at.invariant (read-on c.reading_at-read.ensures c.loop-at-test.true) c.is_listed.ensures (ap not c.if-not-is_listed.false)
+    let l = c.loop-at.invariant in
+    let x = first-reading c.args.text.now l.at (sym l.readings ∙ c.in-Some.ensures.steps) in
+    let o = first-on x in
+    record {
+      at = c.in-Some.read.next;
+      readings = x.others;
+      within = o.within;
+      codes = codes-more l.codes o c.is_listed.ensures (ap not c.if-not-is_listed.false);
+    }
 
 pub returns : goal.returns
-returns c = codes-end c.loop-at.invariant c.loop-at-test.false
+returns c =
+    let l = c.loop-at.invariant in
+    let h = readings-none c.args.text.now l.at (sym l.readings ∙ c.in-None.ensures.steps.0) in
+    omega (arith, l.within, codes-end l.codes h)

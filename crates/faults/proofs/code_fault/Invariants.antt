@@ -1,12 +1,8 @@
 -- `code_fault` looks for the first token that is not listed.
 -- Assumes nothing.
-use Prim.Native.Nat.{◌-◌}
-use lib.ListN.{length}
-use Rattle.faults.proofs.TokenSearch.{CodesLeft}
+use Rattle.charset.specs.Readings.{readings_left}
+use Rattle.faults.proofs.TokenSearch.{CodesRest}
 use Rattle.faults.proofs.code_fault.Given as goal
 
 abbrev pub invariant-loop-at : goal.invariant-loop-at
-invariant-loop-at l = CodesLeft l.teletext l.text l.at
-
-abbrev pub decreases-loop-at : goal.decreases-loop-at
-decreases-loop-at l = length l.text - l.at
+invariant-loop-at l = CodesRest l.teletext l.text (readings_left l.at-iterator)

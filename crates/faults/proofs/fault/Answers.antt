@@ -1,24 +1,28 @@
 -- `fault` looks for the fault of the rule that is broken.
 -- Assumes nothing.
-use borrow.Author.Tests.{eq-eqb, ne_eqb}
+use mathlib.Core.Path.{sym, refl, ◌∙◌}
+use Rattle.rows.specs.Scanning.{number_of}
 use Rattle.faults.proofs.Numbers.{offset-told, heights-told}
 use Rattle.faults.proofs.fault.Goals as goal
 
-pub returns-then-number-eq13 : goal.returns-then-number-eq13
-returns-then-number-eq13 c = rw (offset-told _ _ _ c.requires, eq-eqb _ 13 c.if-number-eq13.true) c.code_fault.ensures
+pub returns-in-Codes : goal.returns-in-Codes
+unfolding number_of
+returns-in-Codes c =
+    let q = rw c.in-Codes.is at c.requires in
+    record { number = q; offset = c.code_fault.ensures ∙ sym (offset-told _ _ _ q) }
 
-pub returns-then-number-eq14 : goal.returns-then-number-eq14
-returns-then-number-eq14 c =
-    rw (offset-told _ _ _ c.requires, ne_eqb _ 13 c.if-number-eq13.false, eq-eqb _ 14 c.if-number-eq14.true) c.height_fault.ensures
+pub returns-in-Heights : goal.returns-in-Heights
+unfolding number_of
+returns-in-Heights c =
+    let q = rw c.in-Heights.is at c.requires in
+    record { number = q; offset = c.height_fault.ensures ∙ sym (offset-told _ _ _ q) }
 
 pub row_fault-requires : goal.row_fault-requires
-row_fault-requires c = heights-told _ _ _ c.requires c.if-number-eq15.true
+unfolding number_of
+row_fault-requires c = let q = rw c.in-Fit.is at c.requires in heights-told _ _ _ q refl
 
-pub returns-then-number-eq15 : goal.returns-then-number-eq15
-returns-then-number-eq15 c =
-    rw (offset-told _ _ _ c.requires, ne_eqb _ 13 c.if-number-eq13.false, ne_eqb _ 14 c.if-number-eq14.false, eq-eqb _ 15 c.if-number-eq15.true)
-    c.row_fault.ensures
-
-pub returns : goal.returns
-returns c =
-    rw (offset-told _ _ _ c.requires, ne_eqb _ 13 c.if-number-eq13.false, ne_eqb _ 14 c.if-number-eq14.false, ne_eqb _ 15 c.if-number-eq15.false)
+pub returns-in-Fit : goal.returns-in-Fit
+unfolding number_of
+returns-in-Fit c =
+    let q = rw c.in-Fit.is at c.requires in
+    record { number = q; offset = c.row_fault.ensures ∙ sym (offset-told _ _ _ q) }

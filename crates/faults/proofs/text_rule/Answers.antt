@@ -1,18 +1,18 @@
 -- `text_rule` gives the rule that a text breaks, and where.
 -- Assumes nothing.
-use mathlib.Core.Path.{refl}
-use borrow.Author.Tests.{eq-eqb, ne_eqb}
-use Rattle.meaning.specs.Refusals.{no_refusal}
-use Rattle.faults.proofs.Numbers.{rule_told}
+use mathlib.Core.Path.{sym, ◌∙◌}
+use Rattle.rows.specs.Scanning.{number_of}
+use Rattle.faults.proofs.Numbers.{kept_told, broken_told, err_number}
 use Rattle.faults.proofs.text_rule.Goals as goal
 
-pub returns-then-number-eq0 : goal.returns-then-number-eq0
-unfolding no_refusal
-returns-then-number-eq0 c = rw (eq-eqb _ 0 c.if-number-eq0.true) at (rule_told _ _ _ c.verdict-number.ensures c.args.place refl)
+pub returns-in-Ok : goal.returns-in-Ok
+unfolding number_of
+returns-in-Ok c = kept_told _ _ _ c.verdict.ensures _ (rw c.in-Ok.is)
 
-pub fault-offset-requires : goal.fault-offset-requires
-fault-offset-requires c = c.verdict-number.ensures
+pub fault-number-requires : goal.fault-number-requires
+fault-number-requires c = rw c.in-Err.is at c.verdict.ensures
 
-pub returns : goal.returns
-returns c =
-    rw (ne_eqb _ 0 c.if-number-eq0.false) at (rule_told _ _ _ c.verdict-number.ensures c.args.place c.fault-offset.ensures)
+pub returns-in-Err : goal.returns-in-Err
+returns-in-Err c =
+    let q = rw c.in-Err.is at c.verdict.ensures in
+    broken_told _ _ _ c.fault-number.ensures.number _ (λ z. err_number _ (q ∙ sym c.fault-number.ensures.number ∙ z)) c.fault-number.ensures.offset

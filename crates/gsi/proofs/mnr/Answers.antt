@@ -1,18 +1,12 @@
--- `mnr` reads two digits, which write a number below 100.
+-- `mnr` reads two digits.
 -- Assumes nothing.
 use native.Mathlib.Nat.{le_trans}
 use native.Mathlib.Omega.{arith}
-use Rattle.meaning.specs.Gsi.{mnr}
-use Rattle.gsi.proofs.Digits.{below, field-length}
+use Rattle.block.proofs.Fields.{field_length}
+use Rattle.gsi.proofs.Digits.{two_digits}
 use Rattle.gsi.proofs.mnr.Goals as goal
-
-pub read_decimal-rows-requires : goal.read_decimal-rows-requires
-read_decimal-rows-requires c = rw c.field.ensures (le_trans (field-length _ _ _) (omega arith))
 
 pub overflow_cast-result : goal.overflow_cast-result
 overflow_cast-result c =
-    omega (arith, below 2 c.read_decimal-rows.result.value _ c.read_decimal-rows.ensures.small (rw c.field.ensures (le_trans (field-length _ _ _) (omega arith))))
-
-pub returns : goal.returns
-unfolding mnr
-returns c = rw (c.read_decimal-rows.ensures.value, c.field.ensures)
+    let s = c.field.result.now in
+    omega (arith, two_digits s c.read_decimal.result (rw c.field.ensures (le_trans (field_length _ _ _) (omega arith))) c.read_decimal.ensures.small)

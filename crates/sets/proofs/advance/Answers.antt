@@ -15,14 +15,14 @@ returns-then-not-has_room c =
     let t = on-full a.f a.place a.bytes.now a.s a.text.now c.header_of-h.ensures c.is_user.ensures c.if-is_user.false c.text_of-part.ensures c.text_end-at.ensures c.has_room.ensures c.if-not-has_room.true in
     record { step = t.0; text = t.1 }
 
-pub returns-in-Between : goal.returns-in-Between
-returns-in-Between c =
+pub returns-in-None : goal.returns-in-None
+returns-in-None c =
     let a = c.args in
-    let t = on-first a.f a.place a.bytes.now a.s a.text.now c.header_of-h.ensures c.is_user.ensures c.if-is_user.false c.text_of-part.ensures c.text_end-at.ensures c.has_room.ensures c.if-not-has_room.false c.put-size.ensures c.in-Between.is _ c.opening.ensures in
+    let t = on-first a.f a.place a.bytes.now a.s a.text.now c.header_of-h.ensures c.is_user.ensures c.if-is_user.false c.text_of-part.ensures c.text_end-at.ensures c.has_room.ensures c.if-not-has_room.false c.copy_from_slice.ensures.after c.in-None.is _ c.opening.ensures in
     record { step = t.0; text = t.1 }
 
-pub returns-in-Open : goal.returns-in-Open
-returns-in-Open c =
+pub returns-in-Some : goal.returns-in-Some
+returns-in-Some c =
     let a = c.args in
-    let t = on-next a.f a.place a.bytes.now a.s a.text.now c.header_of-h.ensures c.is_user.ensures c.if-is_user.false c.text_of-part.ensures c.text_end-at.ensures c.has_room.ensures c.if-not-has_room.false c.put-size.ensures c.in-Open.is _ c.continuing.ensures in
+    let t = on-next a.f a.place a.bytes.now a.s a.text.now c.header_of-h.ensures c.is_user.ensures c.if-is_user.false c.text_of-part.ensures c.text_end-at.ensures c.has_room.ensures c.if-not-has_room.false c.copy_from_slice.ensures.after c.in-Some.is _ c.continuing.ensures in
     record { step = t.0; text = t.1 }

@@ -2,10 +2,9 @@
 -- Assumes nothing.
 use Rattle.meaning.specs.Lists.{bytes}
 use Rattle.meaning.specs.Document.{style_name}
-use Rattle.output.proofs.Laws.{◌⨟◌}
+use Rattle.output.proofs.Laws.{◌▸◌}
 use Rattle.styles.proofs.put_style_name.Goals as goal
 
 pub returns : goal.returns
 unfolding style_name bytes
-returns c =
-    c.put_byte-p.ensures ⨟ c.put_digits3.ensures
+returns c = rw c.from.ensures at (c.put_byte.ensures ▸ c.put_digits3.ensures)

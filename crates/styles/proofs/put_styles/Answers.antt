@@ -1,19 +1,31 @@
+use mathlib.Core.Path.{◌≡◌, ap, sym}
+use mathlib.Core.List.{flat_map}
 use native.Mathlib.Omega.{arith}
-use Rattle.output.proofs.Laws.{wrote_nothing}
-use Rattle.styles.proofs.Laws.{lines_begun, lines_on, lines_written, later_fewer}
+use Rattle.meaning.specs.Document.{write_style}
+use Rattle.meaning.specs.Looks.{look_count}
+use Rattle.output.proofs.Laws.{put_as, put_nothing, put-more}
+use Rattle.styles.specs.Styles.{marked_below}
+use Rattle.styles.proofs.Laws.{below-none, below-marked, below-clear, below-all}
 use Rattle.styles.proofs.put_styles.Goals as goal
+use Rattle.styles.proofs.put_styles.Goals.{then-on, else-on}
 
 pub loop-look-init : goal.loop-look-init
-loop-look-init c = lines_begun c.next_marked-look.ensures (wrote_nothing _ _ (omega arith) (omega arith))
-
-pub loop-look-smaller : goal.loop-look-smaller
-loop-look-smaller c =
-    let l = c.loop-look in
-    later_fewer _ l.look _ (omega arith) c.next_marked-look-in-loop-look.ensures
+unfolding flat_map
+loop-look-init c = put_as (ap (flat_map write_style) (below-none _)) (put_nothing _ (omega arith) (omega arith))
 
 pub loop-look-preserved : goal.loop-look-preserved
 loop-look-preserved c =
-    lines_on (omega arith) c.next_marked-look-in-loop-look.ensures c.loop-look.invariant c.put_style-p.ensures
+    let on = c.args.marks.now.on in
+    let k = c.loop-look.look in
+    elim c.if-on.branch [
+      | then-on w ↦
+          rw w.w-is
+          (put_as (ap (flat_map write_style) (below-marked on k w.if-on.true))
+          (put-more write_style (marked_below on k) k c.loop-look.invariant w.put_style.ensures))
+      | else-on w ↦ rw w.w-is (put_as (ap (flat_map write_style) (below-clear on k w.if-on.false)) c.loop-look.invariant)
+    ]
 
 pub returns : goal.returns
-returns c = lines_written (omega arith) c.loop-look.invariant
+returns c =
+    let all : c.loop-look.look ≡ look_count = omega arith in
+    put_as (ap (flat_map write_style) (sym (below-all _))) (rw all at c.loop-look.invariant)

@@ -1,12 +1,10 @@
--- `put_styles` writes a line for each marked look.
+-- `put_styles` writes a line for each marked look: those below the next are written.
 -- Assumes nothing.
-use lib.ListN.{length}
-use Rattle.styles.specs.Styles.{look_and_later}
-use Rattle.styles.proofs.Laws.{LinesLeft}
+use mathlib.Core.List.{flat_map}
+use Rattle.meaning.specs.Document.{write_style}
+use Rattle.output.specs.Output.{Put}
+use Rattle.styles.specs.Styles.{marked_below}
 use Rattle.styles.proofs.put_styles.Given as goal
 
 abbrev pub invariant-loop-look : goal.invariant-loop-look
-invariant-loop-look l = LinesLeft l.marks.on l.initial.out l.at l.out l.p l.look
-
-abbrev pub decreases-loop-look : goal.decreases-loop-look
-decreases-loop-look l = length (look_and_later l.marks.on l.look)
+invariant-loop-look l = Put l.initial.w (flat_map write_style (marked_below l.marks.on l.look)) l.w

@@ -1,11 +1,14 @@
--- `lay_row` decodes a row into arrays as long as the row limit, and lays the spans of what they hold.
+-- `lay_row` decodes a row into an array as long as the row limit, and lays the spans of what it holds.
 -- Assumes nothing.
-use Prim.Native.Nat.{ℕ}
+use mathlib.Core.Path.{refl}
 use lib.ListN.{length-replicate}
 use Rattle.meaning.specs.Rows.{row_limit}
-use Rattle.text.proofs.RowLaying.{row_done}
+use Rattle.cells.specs.declared.PackedCell.{PackedCell}
+use Rattle.text.proofs.Laws.{row_laid}
+use Rattle.text.proofs.RowsLaying.{row_done}
 use Rattle.text.proofs.lay_row.Goals as goal
 
 pub returns : goal.returns
 returns c =
-    row_done c.decode_row-row.ensures (length-replicate {A = ℕ} row_limit 0) (length-replicate {A = ℕ} row_limit 0) c.put_row-tally.ensures
+    row_done c.decode_row-row.ensures (length-replicate {A = PackedCell} row_limit (record { character = record { point = 0; mark = 0 }; look = 0 })) c.min.ensures
+    (row_laid c.put_row-count.ensures c.after-body.ensures refl refl)

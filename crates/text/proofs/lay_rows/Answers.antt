@@ -1,35 +1,25 @@
 use native.Mathlib.Omega.{arith}
-use Rattle.rows.proofs.TextLoop.{less_left}
-use Rattle.rows.proofs.RowEnds.{on-after, start-on}
-use Rattle.text.proofs.Laws.{laid_lengths}
+use mathlib.Core.Path.{refl}
+use Rattle.rows.proofs.TextLoop.{rest_falls}
+use Rattle.rows.proofs.RowEnds.{start-on}
+use Rattle.text.proofs.Laws.{break_laid, laid-spans}
 use Rattle.text.proofs.RowsLaying.{rows_all, rows_less, rows_none}
 use Rattle.text.proofs.lay_rows.Goals as goal
 
-pub loop-more-init : goal.loop-more-init
-loop-more-init c = rows_all _ _ c.lay_row-first.ensures
+pub loop-row-init : goal.loop-row-init
+loop-row-init c = rows_all _ _ _ c.lay_row-row.ensures
 
-pub overflow_cast-rows-in-loop-more : goal.overflow_cast-rows-in-loop-more
-overflow_cast-rows-in-loop-more c = omega (arith, c.capped_sum-rows.ensures)
+pub loop-row-smaller : goal.loop-row-smaller
+loop-row-smaller c =
+    rw c.in-Some.is
+    (rest_falls c.args.text.now c.row_after-start.result c.in-Some.after _ c.lay_row-row-in-Some.ensures.after
+    (omega (arith, c.row_after-start.ensures, start-on c.args.text.now c.args.paired c.in-Some.after)))
 
-pub loop-more-smaller : goal.loop-more-smaller
-loop-more-smaller c =
-    let d = c.lay_row-row.ensures in
-    let g = c.args in
-    let n = on-after g.text.now _ d.next d.ended in
-    rw c.loop-more-test.true
-    (less_left c.lay_row-row.result.ended c.loop-more.next c.lay_row-row.result.next _
-    (λ z. (omega (arith, (n z).0, c.row_after-at.ensures, start-on g.text.now g.paired c.loop-more.next), (n z).1)))
-
-pub loop-more-preserved : goal.loop-more-preserved
-loop-more-preserved c =
-    rows_less _ _ c.loop-more.invariant c.loop-more-test.true c.row_after-at.ensures c.put_break.ensures c.lay_row-row.ensures
-    c.capped_sum-rows.ensures
+pub loop-row-preserved : goal.loop-row-preserved
+loop-row-preserved c =
+    let l = c.loop-row.invariant in
+    rows_less _ _ _ l c.in-Some.is c.row_after-start.ensures
+    (break_laid (laid-spans l.here) c.put_break.ensures (record { spans = refl; marks = refl; writer = refl; same = refl })) c.lay_row-row-in-Some.ensures c.capped_sum-rows.ensures
 
 pub returns : goal.returns
-returns c = rows_none _ _ c.lay_row-first.ensures c.loop-more.invariant c.loop-more-test.false
-
-pub shape_of-out : goal.shape_of-out
-shape_of-out c = (laid_lengths (returns c).laid).0
-
-pub shape_of-marks : goal.shape_of-marks
-shape_of-marks c = (laid_lengths (returns c).laid).1
+returns c = rows_none _ _ _ c.loop-row.invariant c.in_default.is refl

@@ -1,13 +1,12 @@
 -- `lay_rows` lays all rows, seen from those that are left.
 -- Assumes nothing.
-use Prim.Native.Nat.{suc, ◌-◌}
-use mathlib.Core.Bool.{cond}
 use lib.ListN.{length}
+use Rattle.rows.proofs.TextLoop.{rest_of}
 use Rattle.text.proofs.RowsLaying.{RowsLeft}
 use Rattle.text.proofs.lay_rows.Given as goal
 
-abbrev pub invariant-loop-more : goal.invariant-loop-more
-invariant-loop-more l = RowsLeft l.text l.paired l.initial.out l.initial.marks l.initial.tally l.initial.look l.out l.marks l.tally l.look l.more l.next l.rows
+abbrev pub invariant-loop-row : goal.invariant-loop-row
+invariant-loop-row l = RowsLeft l.text l.before l.paired l.fn.body l.body l.row l.rows
 
-abbrev pub decreases-loop-more : goal.decreases-loop-more
-decreases-loop-more l = cond l.more (suc (length l.text - l.next)) 0
+abbrev pub decreases-loop-row : goal.decreases-loop-row
+decreases-loop-row l = rest_of (length l.text) l.row.after

@@ -1,19 +1,10 @@
 -- `put_character` writes a character's code points: one, or two.
 -- Assumes nothing.
-use Rattle.output.proofs.Laws.{wrote-length}
 use Rattle.text.proofs.Laws.{character_bare, character-marked}
 use Rattle.text.proofs.put_character.Goals as goal
 
-pub returns-then-glyph-eq0 : goal.returns-then-glyph-eq0
-returns-then-glyph-eq0 c =
-    character_bare _ c.unpacked-glyph.ensures c.put_escaped-p.ensures c.if-glyph-eq0.true
+pub returns-then-character-ne0 : goal.returns-then-character-ne0
+returns-then-character-ne0 c = character-marked c.args.character c.put_escaped.ensures c.if-character-ne0.true c.put_escaped-then-character-ne0.ensures
 
-pub returns : goal.returns
-returns c =
-    character-marked _ c.unpacked-glyph.ensures c.put_escaped-p.ensures c.if-glyph-eq0.false c.put_escaped.ensures
-
-pub shape_of-out-then-glyph-eq0 : goal.shape_of-out-then-glyph-eq0
-shape_of-out-then-glyph-eq0 c = wrote-length (returns-then-glyph-eq0 c)
-
-pub shape_of-out : goal.shape_of-out
-shape_of-out c = wrote-length (returns c)
+pub returns-else-character-ne0 : goal.returns-else-character-ne0
+returns-else-character-ne0 c = character_bare c.args.character c.put_escaped.ensures c.if-character-ne0.false

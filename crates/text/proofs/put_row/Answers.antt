@@ -1,31 +1,25 @@
 use native.Mathlib.Omega.{arith}
-use borrow.Author.Rules.{rules}
-use Rattle.text.proofs.Laws.{laid-nothing, laid_lengths}
-use Rattle.text.proofs.RowLaying.{span_bounds, spans_all, spans_less, spans-none}
+use mathlib.Core.List.{[], ◌∷◌}
+use Rattle.std.proofs.lemmas.List.{map-append}
+use Rattle.std.proofs.lemmas.Iterator.Consumers.{YieldsList-from_first, YieldsList-end}
+use Rattle.meaning.specs.Conversion.{row_spans}
+use Rattle.cells.specs.Packed.{cells_in}
+use Rattle.spans.specs.Spans.{spans_in, spans_left, read_of}
+use Rattle.text.specs.Laid.{piece_of}
+use Rattle.text.proofs.Laws.{put-none, put_one}
+use Rattle.text.proofs.RowsLaying.{all-read}
 use Rattle.text.proofs.put_row.Goals as goal
 
-pub loop-i-init : goal.loop-i-init
-loop-i-init c = spans_all _ _ _ c.shown_range-shown.ensures (laid-nothing _ _ _ (omega arith) (search rules) (search rules))
+pub loop-s-init : goal.loop-s-init
+loop-s-init c = put-none _ _ (omega arith) (omega arith)
 
-pub put_span-r-requires : goal.put_span-r-requires
-put_span-r-requires c =
-    let b = span_bounds _ _ _ c.loop-i.invariant c.span_at-s.ensures c.loop-i-test.true in
-    (omega arith, b.2)
-
-pub loop-i-smaller : goal.loop-i-smaller
-loop-i-smaller c =
-    let b = span_bounds _ _ _ c.loop-i.invariant c.span_at-s.ensures c.loop-i-test.true in
-    omega arith
-
-pub loop-i-preserved : goal.loop-i-preserved
-loop-i-preserved c =
-    spans_less _ _ _ c.loop-i.invariant c.span_at-s.ensures c.loop-i-test.true c.put_span-r.ensures
+pub loop-s-preserved : goal.loop-s-preserved
+loop-s-preserved c = rw (map-append piece_of c.loop-s.yielded (c.in-Some.s ∷ [])) (put_one _ c.in-Some.s c.loop-s.invariant c.put_span.ensures c.mark.ensures c.after-count.ensures)
 
 pub returns : goal.returns
-returns c = spans-none _ _ _ c.loop-i.invariant c.loop-i-test.false
-
-pub shape_of-out : goal.shape_of-out
-shape_of-out c = (laid_lengths (returns c)).0
-
-pub shape_of-marks : goal.shape_of-marks
-shape_of-marks c = (laid_lengths (returns c)).1
+unfolding row_spans
+returns c =
+    let l = c.loop-s in
+    let cs = c.shown.result.now in
+    let all = YieldsList-end (YieldsList-from_first read_of spans_left (spans_in cs) cc) l.yielded l.s-iterator l.yielded_by c.next.result c.next.new.self c.in-None.is c.next.ensures.steps in
+    rw (all-read (cells_in cs) l.yielded all.0, c.shown.ensures.shown) at l.invariant

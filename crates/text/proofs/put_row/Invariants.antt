@@ -1,11 +1,8 @@
--- `put_row` lays the spans of what is shown, seen from the cells that are left.
+-- `put_row` puts the spans of what is shown, seen from those that were read.
 -- Assumes nothing.
-use Prim.Native.Nat.{◌-◌}
-use Rattle.text.proofs.RowLaying.{SpansLeft}
+use mathlib.Core.List.{map}
+use Rattle.text.specs.Laid.{RowPut, piece_of}
 use Rattle.text.proofs.put_row.Given as goal
 
-abbrev pub invariant-loop-i : goal.invariant-loop-i
-invariant-loop-i l = SpansLeft l.characters l.looks l.n l.initial.out l.initial.marks l.initial.r l.end l.out l.marks l.r l.i
-
-abbrev pub decreases-loop-i : goal.decreases-loop-i
-decreases-loop-i l = l.end - l.i
+abbrev pub invariant-loop-s : goal.invariant-loop-s
+invariant-loop-s l = RowPut l.initial.w l.initial.marks (map piece_of l.yielded) l.w l.marks l.count

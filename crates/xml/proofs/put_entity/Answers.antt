@@ -7,16 +7,16 @@ use Rattle.meaning.specs.Lists.{bytes}
 use Rattle.meaning.specs.Document.{escaped}
 use Rattle.xml.proofs.put_entity.Goals as goal
 
-pub returns-then-c-eq38 : goal.returns-then-c-eq38
+pub returns-in-38 : goal.returns-in-38
 unfolding escaped bytes
-returns-then-c-eq38 c = rw c.if-c-eq38.true c.put.ensures
+returns-in-38 c = rw c.in-38.is c.put.ensures
 
-pub returns-then-c-eq60 : goal.returns-then-c-eq60
+pub returns-in-60 : goal.returns-in-60
 unfolding escaped bytes
-returns-then-c-eq60 c = rw c.if-c-eq60.true c.put-then-c-eq60.ensures
+returns-in-60 c = rw c.in-60.is c.put-in-60.ensures
 
-pub returns : goal.returns
+pub returns-in_default : goal.returns-in_default
 unfolding escaped bytes
-returns c =
+returns-in_default c =
     let e : c.args.c ≡ 62 = ⊎_elim (λ h. omega arith) (⊎_elim (λ h. omega arith) (λ h. h)) c.requires in
-    rw e c.put-2.ensures
+    rw e c.put-in_default.ensures

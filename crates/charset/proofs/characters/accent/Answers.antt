@@ -1,27 +1,26 @@
--- `accent` gives the number of an accent: its tests are those of the numbers by ranges.
+-- `accent` gives the number of an accent: its arms are those of the numbers by ranges.
 -- Assumes nothing.
 use native.Mathlib.Omega.{arith}
-use Rattle.meaning.proofs.Logic.{between}
-use Rattle.charset.proofs.Codes.{accent-ranged}
+use Rattle.charset.proofs.Points.{accent_first, accent_second, accent_third, accent_none}
 use Rattle.charset.proofs.characters.accent.Goals as goal
 
-pub overflow_sub-result : goal.overflow_sub-result
-overflow_sub-result c = omega (arith, between 193 200 c.args.c c.if-c.true)
+pub returns-in-193-to-200-clause-number : goal.returns-in-193-to-200-clause-number
+returns-in-193-to-200-clause-number c = accent_first _ (omega arith) (omega arith)
 
-pub returns-then-c : goal.returns-then-c
-returns-then-c c = rw (accent-ranged _, c.if-c.true)
+pub returns-in-202-to-203-clause-number : goal.returns-in-202-to-203-clause-number
+returns-in-202-to-203-clause-number c = accent_second _ (omega arith) (omega arith)
 
-pub overflow_sub-result-then-c-2 : goal.overflow_sub-result-then-c-2
-overflow_sub-result-then-c-2 c = omega (arith, between 202 203 c.args.c c.if-c-2.true)
+pub returns-in-205-to-207-clause-number : goal.returns-in-205-to-207-clause-number
+returns-in-205-to-207-clause-number c = accent_third _ (omega arith) (omega arith)
 
-pub returns-then-c-2 : goal.returns-then-c-2
-returns-then-c-2 c = rw (accent-ranged _, c.if-c.false, c.if-c-2.true)
+pub returns-in_default-clause-number : goal.returns-in_default-clause-number
+returns-in_default-clause-number c = accent_none _ (λ h. omega arith) (λ h. omega arith) (λ h. omega arith)
 
-pub overflow_sub-result-then-c-3 : goal.overflow_sub-result-then-c-3
-overflow_sub-result-then-c-3 c = omega (arith, between 205 207 c.args.c c.if-c-3.true)
+pub returns-in_default-2-clause-number : goal.returns-in_default-2-clause-number
+returns-in_default-2-clause-number c = accent_none _ (λ h. omega arith) (λ h. omega arith) (λ h. omega arith)
 
-pub returns-then-c-3 : goal.returns-then-c-3
-returns-then-c-3 c = rw (accent-ranged _, c.if-c.false, c.if-c-2.false, c.if-c-3.true)
+pub returns-in_default-3-clause-number : goal.returns-in_default-3-clause-number
+returns-in_default-3-clause-number c = accent_none _ (λ h. omega arith) (λ h. omega arith) (λ h. omega arith)
 
-pub returns : goal.returns
-returns c = rw (accent-ranged _, c.if-c.false, c.if-c-2.false, c.if-c-3.false)
+pub returns-in_default-4-clause-number : goal.returns-in_default-4-clause-number
+returns-in_default-4-clause-number c = accent_none _ (λ h. omega arith) (λ h. omega arith) (λ h. omega arith)

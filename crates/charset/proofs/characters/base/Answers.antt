@@ -1,18 +1,15 @@
 -- `base` gives what a mark stands on: its tests are those of the definition.
 -- Assumes nothing.
 use mathlib.Core.Path.{sym, ◌∙◌}
-use borrow.Author.Tests.{eq-eqb, ne_eqb}
-use Rattle.meaning.specs.Characters.{base}
+use Rattle.charset.proofs.Points.{index-zero, index-is, base_space, base_letter, base-none}
 use Rattle.charset.proofs.characters.base.Goals as goal
 
 pub returns-then-c-eq32 : goal.returns-then-c-eq32
-unfolding base
-returns-then-c-eq32 c = rw (eq-eqb _ 32 c.if-c-eq32.true)
+returns-then-c-eq32 c = base_space _ c.if-c-eq32.true
 
-pub returns-then-letter-eq0 : goal.returns-then-letter-eq0
-unfolding base
-returns-then-letter-eq0 c = rw (ne_eqb _ 32 c.if-c-eq32.false, eq-eqb _ 0 (sym c.letter.ensures.number ∙ c.if-letter-eq0.true))
+pub returns-in_err-letter : goal.returns-in_err-letter
+returns-in_err-letter c =
+    c.from_residual.ensures ∙ base-none _ c.if-c-eq32.false (index-zero _ (sym c.letter.ensures.number ∙ c.in_err-letter.was))
 
 pub returns : goal.returns
-unfolding base
-returns c = rw (ne_eqb _ 32 c.if-c-eq32.false, ne_eqb _ 0 (λ e. c.if-letter-eq0.false (c.letter.ensures.number ∙ e)))
+returns c = base_letter _ c.if-c-eq32.false (index-is _ (sym c.letter.ensures.number ∙ c.in_ok-letter.was))

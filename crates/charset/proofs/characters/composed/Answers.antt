@@ -1,17 +1,19 @@
 -- `composed` gives the entry of an accent and a letter in the one table.
 -- Assumes nothing.
-use Rattle.charset.proofs.Codes.{composed_alone, composed-at}
-use Rattle.meaning.specs.Characters.{composed}
 use mathlib.Core.Path.{sym, ◌∙◌}
-use native.Mathlib.Omega.{arith}
+use Rattle.meaning.specs.Characters.{composed}
+use Rattle.charset.specs.Points.{point_of}
+use Rattle.charset.proofs.Points.{index-zero, index-is}
 use Rattle.charset.proofs.characters.composed.Goals as goal
 
-pub returns-then-a-eq0 : goal.returns-then-a-eq0
-unfolding composed
-returns-then-a-eq0 c = rw c.if-a-eq0.true
-
-pub returns-then-l-eq0 : goal.returns-then-l-eq0
-returns-then-l-eq0 c = rw c.if-l-eq0.true (sym (composed_alone _))
+pub returns-in_err-l : goal.returns-in_err-l
+unfolding composed point_of
+returns-in_err-l c =
+    let e = index-zero _ (sym c.letter.ensures.number ∙ c.in_err-l.was) in
+    rw (c.from_residual.ensures, e)
 
 pub returns : goal.returns
-returns c = c.entry.ensures ∙ sym (composed-at _ _ (omega arith) (omega arith))
+unfolding composed
+returns c =
+    let e = index-is _ (sym c.letter.ensures.number ∙ c.in_ok-l.was) in
+    rw (c.point_of.ensures, c.entry.ensures, e)

@@ -1,26 +1,20 @@
--- `letter` gives the number of a letter: its tests are those of the definition.
+-- `letter` gives the number of a letter: its arms are the tests of the definition.
 -- Assumes nothing.
 use native.Mathlib.Omega.{arith}
-use Rattle.meaning.specs.Characters.{letter}
-use Rattle.meaning.proofs.Logic.{between}
+use Rattle.charset.proofs.Points.{letter_upper, letter_lower, letter_none}
 use Rattle.charset.proofs.characters.letter.Goals as goal
 
-pub overflow_sub-result : goal.overflow_sub-result
-unfolding letter
-overflow_sub-result c = omega (arith, between 65 90 c.args.c c.if-c.true)
+pub returns-in-65-to-90-clause-number : goal.returns-in-65-to-90-clause-number
+returns-in-65-to-90-clause-number c = letter_upper _ (omega arith) (omega arith)
 
-pub returns-then-c : goal.returns-then-c
-unfolding letter
-returns-then-c c = record { number = rw c.if-c.true; small = omega (arith, between 65 90 c.args.c c.if-c.true) }
+pub returns-in-97-to-122-clause-number : goal.returns-in-97-to-122-clause-number
+returns-in-97-to-122-clause-number c = letter_lower _ (omega arith) (omega arith)
 
-pub overflow_sub-result-then-c-2 : goal.overflow_sub-result-then-c-2
-unfolding letter
-overflow_sub-result-then-c-2 c = omega (arith, between 97 122 c.args.c c.if-c-2.true)
+pub returns-in_default-clause-number : goal.returns-in_default-clause-number
+returns-in_default-clause-number c = letter_none _ (λ h. omega arith) (λ h. omega arith)
 
-pub returns-then-c-2 : goal.returns-then-c-2
-unfolding letter
-returns-then-c-2 c = record { number = rw (c.if-c.false, c.if-c-2.true); small = omega (arith, between 97 122 c.args.c c.if-c-2.true) }
+pub returns-in_default-2-clause-number : goal.returns-in_default-2-clause-number
+returns-in_default-2-clause-number c = letter_none _ (λ h. omega arith) (λ h. omega arith)
 
-pub returns : goal.returns
-unfolding letter
-returns c = record { number = rw (c.if-c.false, c.if-c-2.false); small = omega arith }
+pub returns-in_default-3-clause-number : goal.returns-in_default-3-clause-number
+returns-in_default-3-clause-number c = letter_none _ (λ h. omega arith) (λ h. omega arith)

@@ -10,4 +10,4 @@ pub returns : goal.returns
 unfolding latin_table
 returns c =
     let n = c.args.c in
-    rw (by_range_lem n (omega arith), le-ltb n 32 (omega arith), ne_eqb n 36 (λ e. omega arith), le-ltb n 127 (omega arith), le-ltb n 160 (omega arith))
+    rw (c.point_of.ensures, by_range_lem n (omega arith), le-ltb n 32 (omega arith), ne_eqb n 36 (λ e. omega arith), le-ltb n 127 (omega arith), le-ltb n 160 (omega arith))

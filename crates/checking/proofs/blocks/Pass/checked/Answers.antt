@@ -1,21 +1,18 @@
 -- `Pass::checked` tells a refusal, or what was counted and laid.
 -- Assumes nothing.
-use mathlib.Core.Path.{sym, ap, ◌∙◌}
-use Rattle.meaning.specs.Refusals.{no_refusal}
+use mathlib.Core.Path.{◌≡◌}
+use Rattle.std.proofs.Common.{rules, Err}
 use Rattle.meaning.proofs.RefusalLaws.{good-number, bad-number}
-use Rattle.checking.specs.Passing.{checked_of}
 use Rattle.checking.proofs.Stepping.{ended-bad, ended_open, ended_shut}
 use Rattle.checking.proofs.blocks.Pass.checked.Goals as goal
 
-pub returns-then-refusal-ne0 : goal.returns-then-refusal-ne0
-returns-then-refusal-ne0 c text out = c.told_refused.ensures ∙ ap checked_of (ended-bad _ _ text out _ (bad-number _ c.if-refusal-ne0.true))
+pub returns-then-self-ne0 : goal.returns-then-self-ne0
+returns-then-self-ne0 c text out = ended-bad _ _ text _ (bad-number _ c.if-self-ne0.true)
 
-pub returns-then-is_open : goal.returns-then-is_open
-returns-then-is_open c text out =
-    c.told_refused-then-is_open.ensures
-    ∙ ap checked_of (ended_open _ _ text out _ (good-number _ c.if-refusal-ne0.false) (sym (c.is_open.ensures text) ∙ c.if-is_open.true))
+pub returns-in_err-unless : goal.returns-in_err-unless
+returns-in_err-unless c text out =
+    let z : c.from_residual.result ≡ Err c.in_err-unless.field-0.0 = search rules in
+    rw z (ended_open _ _ text _ (good-number _ c.if-self-ne0.false) (c.is_open.ensures text) c.unless.ensures c.in_err-unless.was)
 
 pub returns : goal.returns
-unfolding no_refusal
-returns c text out =
-    ended_shut _ _ text out _ (good-number _ c.if-refusal-ne0.false) (sym (c.is_open.ensures text) ∙ c.if-is_open.false)
+returns c text out = ended_shut _ _ text _ (good-number _ c.if-self-ne0.false) (c.is_open.ensures text) c.unless.ensures c.in_ok-unless.was
