@@ -26,7 +26,7 @@ pub fn field(s: &[u8], from: usize, n: usize) -> &[u8]
 }
 
 // The bytes of block k.
-#[tactic(auto, using(crate::proofs::Fields::drop_within), unfolding(meaning::specs::Lists::field, meaning::specs::Blocks::block_at))]
+#[tactic(auto, unfolding(meaning::specs::Lists::field, meaning::specs::Blocks::block_at))]
 pub fn bytes_at(file: &[u8], k: usize) -> &[u8]
     ensures { result.now ≡ block_at file.now k }
 {

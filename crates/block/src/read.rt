@@ -10,9 +10,10 @@ use meaning::{HEADER_SIZE, Header, TEXT_SIZE, Time};
 // Ends a text.
 const TEXT_END: u8 = 0x8F;
 
+// Four bytes taken by value would need no requirement, but have their eight indices written out.
 #[tactic(auto, unfolding(meaning::specs::Blocks::time_at))]
-fn time_at(b: &[u8], i: usize) -> Time
-    requires { i + 4 ≤ length b.now }
+fn time_at(b: &[u8; HEADER_SIZE], i: usize) -> Time
+    requires { i + 4 ≤ header_size }
     ensures { result ≡ time_at i b.now }
 {
     Time {
@@ -25,8 +26,7 @@ fn time_at(b: &[u8], i: usize) -> Time
 
 // In SN the low byte comes first.
 #[tactic(auto, unfolding(meaning::specs::Blocks::header_of))]
-fn whole_header(b: &[u8]) -> Header
-    requires { header_size ≤ length b.now }
+fn whole_header(b: &[u8; HEADER_SIZE]) -> Header
     ensures { result ≡ header_of b.now }
 {
     Header {
@@ -42,16 +42,16 @@ fn whole_header(b: &[u8]) -> Header
     }
 }
 
-// Bytes past the block's end read as 0.
-#[tactic(auto, using(crate::proofs::Headers::header_filled))]
-pub(crate) fn header_in(b: &[u8]) -> Header
-    ensures { result ≡ header_of b.now }
+// The header of a block's bytes; those past the block's end read as 0.
+#[tactic(auto, using(crate::proofs::Headers::header_whole, crate::proofs::Headers::header_filled))]
+pub fn header_of(bytes: &[u8]) -> Header
+    ensures { result ≡ header_of bytes.now }
 {
-    if HEADER_SIZE <= b.len() {
-        return whole_header(b);
+    if let Some(whole) = bytes.first_chunk::<HEADER_SIZE>() {
+        return whole_header(whole);
     }
     let mut filled = [0u8; HEADER_SIZE];
-    filled[..b.len()].copy_from_slice(b);
+    filled[..bytes.len()].copy_from_slice(bytes);
     whole_header(&filled)
 }
 
@@ -59,16 +59,14 @@ pub(crate) fn header_in(b: &[u8]) -> Header
 fn length_before_end(text: &[u8]) -> usize
     ensures { result ≡ length (take_while in_text text.now) }
 {
-    text.iter()
-        .position(|c| *c == TEXT_END)
-        .unwrap_or(text.len())
+    memchr::memchr(TEXT_END, text).unwrap_or(text.len())
 }
 
-// The bytes before the first 8Fh of the text field.
+// The text of a block's bytes, as a part of them: the bytes before the first 8Fh of the text field.
 #[tactic(auto, using(meaning::proofs::ListLaws::take_while_lem, meaning::proofs::ListLaws::while_short), unfolding(meaning::specs::Blocks::block_text))]
-pub(crate) fn text_in(b: &[u8]) -> &[u8]
-    ensures { result.now ≡ block_text b.now }
+pub fn text_of(bytes: &[u8]) -> &[u8]
+    ensures { result.now ≡ block_text bytes.now }
 {
-    let text = field(b, HEADER_SIZE, TEXT_SIZE);
+    let text = field(bytes, HEADER_SIZE, TEXT_SIZE);
     &text[..length_before_end(text)]
 }

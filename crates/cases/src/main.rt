@@ -3,33 +3,36 @@
 
 #![tactic(auto)]
 
+use input::LIMIT;
 use meaning::Answer;
 use std::io;
 use std::io::Read;
 
-// The most bytes of a file and of a document.
-const ROOM: usize = 65536;
-
 // More cases are not run.
 const MOST: usize = 1000;
 
-// The Adler-32 checksum of the first n bytes.
-fn adler(bytes: &[u8], n: usize) -> u64 {
+// A header: the name; the break mode; the room and the file's length, three bytes each, the low one first; LF.
+const HEADER_SIZE: usize = 32;
+
+const NAME_SIZE: usize = 24;
+
+// The Adler-32 checksum.
+fn adler(bytes: &[u8]) -> u64 {
     let mut low = 1;
     let mut high = 0;
-    for b in bytes.iter().take(n) {
+    for b in bytes {
         low = (low + u64::from(*b)) % 65521;
         high = (high + low) % 65521;
     }
     high * 65536 + low
 }
 
-fn say_name(rt: &impl Print, header: &[u8; 32]) -> io::Result<()> {
-    rt.write_all(&header[..24])?;
+fn say_name(rt: &impl Print, header: &[u8; HEADER_SIZE]) -> io::Result<()> {
+    rt.write_all(&header[..NAME_SIZE])?;
     print!(rt; ": ")
 }
 
-// The numbers of an answer in a line, with a blank between them.
+// The numbers of an answer in a line, with a blank between them. No `Display`: the check program has them a number a line.
 fn say_answer(rt: &impl Print, a: Answer) -> io::Result<()> {
     let numbers = <[u64; 8]>::from(a);
     print!(rt; "{}", numbers[0])?;
@@ -39,12 +42,6 @@ fn say_answer(rt: &impl Print, a: Answer) -> io::Result<()> {
     println!(rt; "")
 }
 
-// Three bytes, the low one first.
-fn number(low: u8, middle: u8, high: u8) -> usize {
-    u32::from_le_bytes([low, middle, high, 0]) as usize
-}
-
-// A header: the name, 24 bytes; the break mode; the room; the file's length; LF.
 #[derive(Clone, Copy)]
 struct Case {
     mode: u64,
@@ -52,15 +49,29 @@ struct Case {
     length: usize,
 }
 
-fn case_of(header: &[u8; 32]) -> Case {
-    Case {
-        mode: u64::from(header[24]),
-        room: number(header[25], header[26], header[27]),
-        length: number(header[28], header[29], header[30]),
+impl From<&[u8; HEADER_SIZE]> for Case {
+    fn from(header: &[u8; HEADER_SIZE]) -> Case {
+        let room = u32::from_le_bytes([header[25], header[26], header[27], 0]);
+        let length = u32::from_le_bytes([header[28], header[29], header[30], 0]);
+        Case {
+            mode: u64::from(header[24]),
+            room: room as usize,
+            length: length as usize,
+        }
     }
 }
 
-// Reads the file, converts it and says the answer; a case with too large a room or file, or with less of a file, says no more.
+// Converts a file and says the answer, and of a document the checksum.
+fn say_converted(rt: &impl Print, file: &[u8], mode: u64, out: &mut [u8]) -> io::Result<()> {
+    let a = convert::convert(file, mode, out);
+    say_answer(rt, a)?;
+    if a.number > 0 {
+        return Ok(());
+    }
+    println!(rt; "{}", adler(&out[..a.length as usize]))
+}
+
+// Reads the file and says what comes of it; a case with too large a room or file, or with less of a file, says no more.
 fn run<R: Read>(
     rt: &impl Print,
     reader: &mut R,
@@ -68,44 +79,37 @@ fn run<R: Read>(
     file: &mut [u8],
     out: &mut [u8],
 ) -> io::Result<()> {
-    let n = c.length;
-    let room = c.room;
-    if n > file.len() || room > out.len() {
+    if c.length > file.len() || c.room > out.len() {
         return Ok(());
     }
-    let read = input::read_full(reader, &mut file[..n])?;
-    if read < n {
+    let n = input::read_full(reader, &mut file[..c.length])?;
+    if n < c.length {
         return Ok(());
     }
-    let a = convert::convert(&file[..n], c.mode, &mut out[..room]);
-    say_answer(rt, a)?;
-    if a.number > 0 {
-        return Ok(());
-    }
-    println!(rt; "{}", adler(out, a.length as usize))
+    say_converted(rt, &file[..n], c.mode, &mut out[..c.room])
 }
 
 // The next case, if there is one.
 fn run_next<R: Read>(
     rt: &impl Print,
     reader: &mut R,
-    header: &mut [u8; 32],
-    file: &mut [u8; ROOM],
-    out: &mut [u8; ROOM],
+    header: &mut [u8; HEADER_SIZE],
+    file: &mut [u8; LIMIT],
+    out: &mut [u8; LIMIT],
 ) -> io::Result<bool> {
     let n = input::read_full(reader, header)?;
-    if n < 32 {
+    if n < HEADER_SIZE {
         return Ok(false);
     }
     say_name(rt, header)?;
-    run(rt, reader, case_of(header), file, out)?;
+    run(rt, reader, Case::from(&*header), file, out)?;
     Ok(true)
 }
 
 fn main(rt: HostRuntime) -> io::Result<()> {
-    let mut header = [0u8; 32];
-    let mut file = [0u8; ROOM];
-    let mut out = [0u8; ROOM];
+    let mut header = [0u8; HEADER_SIZE];
+    let mut file = [0u8; LIMIT];
+    let mut out = [0u8; LIMIT];
     let mut stdin = rt.stdin();
     for _ in 0..MOST {
         if !run_next(&rt, &mut stdin, &mut header, &mut file, &mut out)? {

@@ -8,7 +8,7 @@ use mathlib.Core.Path.{◌≡◌, refl, sym, ap, subst, ◌∙◌}
 use mathlib.Core.Bool.{true, false}
 use mathlib.Core.List.{List, [], ◌∷◌, ◌++◌, map, append_assoc, append-nil, map-append}
 use lib.ListN.{length, get_or, set, take, length-append, length-map}
-use lib.Seq.{sets, length-sets, set_out, take-suc, take_all}
+use lib.Seq.{sets, take-suc, take_all}
 use Rattle.meaning.specs.declared.Token.{Token}
 use Rattle.meaning.specs.Codes.{takes_cell, is_control_of, is_box_code}
 use Rattle.meaning.specs.Looks.{bit}
@@ -22,7 +22,8 @@ use Rattle.cells.specs.Fronts.{front_after, front_from}
 use Rattle.std.proofs.lemmas.List.{take-map}
 use Rattle.cells.specs.Packed.{pen_of, packed_cell, packed_cells}
 use Rattle.cells.specs.Drawing.{Puts, Draws}
-use Rattle.cells.proofs.Storing.{sets-append, sets-cut}
+use Rattle.output.specs.Output.{stored}
+use Rattle.output.proofs.Laws.{stored-append, stored-cut}
 
 pub cells-size : (t : Token) (pen : Pen) → length (cells_of t pen) ≡ bit (takes_cell t)
 unfolding cells_of
@@ -48,8 +49,9 @@ front-append p front n (x ∷ xs) ys =
     rw (← m) (front-append (pen_after x p) (front_after x front (n + bit (takes_cell x))) (n + bit (takes_cell x)) xs ys)
 
 packed-append : (l : List PackedCell) (k : ℕ) (xs ys : List Cell) → sets l k (packed_cells (xs ++ ys)) ≡ sets (sets l k (packed_cells xs)) (k + length xs) (packed_cells ys)
+unfolding stored
 packed-append l k xs ys =
-    ap (sets l k) (map-append packed_cell xs ys) ∙ sets-append l k (packed_cells xs) (packed_cells ys)
+    ap (sets l k) (map-append packed_cell xs ys) ∙ stored-append l k (packed_cells xs) (packed_cells ys)
     ∙ ap (λ (n : ℕ). sets (sets l k (packed_cells xs)) (k + n) (packed_cells ys)) (length-map xs packed_cell)
 
 pub draws_none : (d : Drawing) → Draws d [] d
@@ -95,15 +97,6 @@ run-front : (front n : ℕ) (cs : List ℕ) → front_from front n (map plain_to
 unfolding front_from front_after is_box_code is_control_of
 run-front front n [] = refl
 run-front front n (c ∷ cs) = run-front front (n + bit (takes_cell (plain_token c))) cs
-
--- a cell stored
-pub puts_in :
-    (d : Drawing) (x : PackedCell)
-    → Puts d (x ∷ []) (record { cells = record { ref_ptr = d.cells.ref_ptr; ghost_name = d.cells.ghost_name; now = set d.cells.now d.count x }; count = d.count + 1; front = d.front; pen = d.pen })
-puts_in d x = record { held = refl; count = refl; front = refl; pen = refl; same = refl }
-
-pub puts_out : (d : Drawing) (x : PackedCell) → length d.cells.now ≤ d.count → Puts d (x ∷ []) (record { cells = d.cells; count = d.count + 1; front = d.front; pen = d.pen })
-puts_out d x h = record { held = sym (set_out d.cells.now d.count x h); count = refl; front = refl; pen = refl; same = refl }
 
 -- the cell of a token, or none where it takes none
 module _ (t : Token) (p : Pen) where
@@ -151,13 +144,6 @@ unfolding cells_from pen_end front_from
 draws_begun d = record { held = refl; count = refl; front = refl; pen = refl; same = refl }
 
 module _ {d : Drawing} (e : Drawing) (n j : ℕ) (cs : List ℕ) (w : Draws d (map plain_token (take j cs)) (with_cells e e.cells.now (n + j))) where
-  same_places : length e.cells.now ≡ length d.cells.now
-  same_places =
-      ap length w.held ∙ length-sets d.cells.now d.count (packed_cells (cells_from (pen_of d.pen) (map plain_token (take j cs))))
-
-  pub run_place : j < length cs → length cs ≤ length d.cells.now - d.count → d.count + j < length e.cells.now
-  run_place h k = omega (arith, h, k, same_places)
-
   pub run_more : j < length cs → (x : PackedCell) → x ≡ packed_cell (cell_of (plain_token (get_or cs j 0)) (pen_of e.pen))
       → Draws d (map plain_token (take (j + 1) cs)) (with_cells e (set e.cells.now (n + j) x) (n + (j + 1)))
   run_more h x s =
@@ -170,6 +156,7 @@ module _ {d : Drawing} (e : Drawing) (n j : ℕ) (cs : List ℕ) (w : Draws d (m
 pub drawn_run :
     {d : Drawing} (e : Drawing) (k j : ℕ) {n : ℕ} (cs : List ℕ) → Draws d (map plain_token (take j (take n cs))) (with_cells e e.cells.now (k + j))
     → length (take n cs) ≤ j → n ≡ min (length cs) (length d.cells.now - d.count) → Draws d (map plain_token cs) (with_cells e e.cells.now (d.count + length cs))
+unfolding stored
 drawn_run {d} e k j {n} cs w h m =
     let p = pen_of d.pen in
     let all = cells_from p (map plain_token cs) in
@@ -180,7 +167,7 @@ drawn_run {d} e k j {n} cs w h m =
           v.held
           ∙ ap (λ (l : List Cell). sets d.cells.now d.count (packed_cells l)) (run-take p n cs)
           ∙ ap (sets d.cells.now d.count) (sym (take-map packed_cell n all))
-          ∙ sets-cut d.cells.now d.count n (packed_cells all) fits;
+          ∙ stored-cut d.cells.now d.count n (packed_cells all) fits;
       count = ap (λ (k : ℕ). d.count + k) (sym (run-size p cs));
       front = v.front ∙ run-front d.front d.count (take n cs) ∙ sym (run-front d.front d.count cs);
       pen = v.pen ∙ run-end p (take n cs) ∙ sym (run-end p cs);

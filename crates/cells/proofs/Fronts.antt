@@ -16,7 +16,8 @@ use Rattle.meaning.specs.Lists.{any}
 use Rattle.meaning.specs.Codes.{takes_cell, is_control_of, is_box_start, is_box_end, is_box_code}
 use Rattle.meaning.specs.Looks.{bit}
 use Rattle.meaning.specs.Cells.{Pen, look_next, hidden_next, hidden_cell, pen_after, cells_of, cells_from, pen_end, row_start, cells_of_row, look_after_row}
-use Rattle.meaning.proofs.Logic.{by_test, false_not_true, or_second, or-none}
+use Rattle.std.proofs.lemmas.Bool.{false≢true, or_parts}
+use Rattle.meaning.proofs.Logic.{by_test, or_second}
 use Rattle.meaning.proofs.ListLaws.{any-cons, none_split}
 use Rattle.laws.proofs.Boxes.{same-height, hidden-cell}
 use Rattle.cells.specs.Fronts.{boxed_start, front_after, front_from}
@@ -31,14 +32,14 @@ box_next t h g e =
 
 other-next : (t : Token) (h : Bool) → is_box_code t ≡ false → hidden_next t h ≡ h
 unfolding is_box_code hidden_next
-other-next t h e = let n = or-none (is_box_start t) (is_box_end t) e in rw (n.0, n.1)
+other-next t h e = let n = or_parts (is_box_start t) (is_box_end t) e in rw (n.0, n.1)
 
 -- a box code takes a cell
 box_takes : (t : Token) → is_box_code t ≡ true → takes_cell t ≡ true
 unfolding is_box_code is_control_of takes_cell
 box_takes (Character p) e = refl
 box_takes (Control c) e = refl
-box_takes (Switch c) e = absurd (false_not_true e)
+box_takes (Switch c) e = absurd (false≢true e)
 box_takes RowEnd e = refl
 box_takes Unlisted e = refl
 
@@ -122,7 +123,7 @@ module _ (l : Look) (n : ℕ) (t : Token) (ts : List Token) where
 
 front_of : (l : Look) (n : ℕ) (ts : List Token) → any is_box_code ts ≡ true → Front l n ts
 unfolding any
-front_of l n [] e = absurd (false_not_true e)
+front_of l n [] e = absurd (false≢true e)
 front_of l n (t ∷ ts) e =
     by_test (is_box_code t)
     (λ b. front-here l n t ts b)

@@ -9,7 +9,7 @@ use lib.ListN.{length, drop, replicate, length-map, length-replicate}
 use lib.Seq.{sets}
 use Rattle.meaning.specs.Looks.{pack, unpack}
 use Rattle.meaning.specs.Cells.{Pen, hidden_cell, row_start, cells_from, pen_end}
-use Rattle.meaning.proofs.LookLaws.{pack-unpack}
+use Rattle.meaning.proofs.LookLaws.{packed_again}
 use Rattle.laws.proofs.Bounds.{cells-length}
 use Rattle.cells.specs.declared.PackedCell.{PackedCell}
 use Rattle.cells.specs.declared.drawing.Drawing.{Drawing}
@@ -18,13 +18,14 @@ use lib.LanesLaws.{map-replicate}
 use Rattle.std.proofs.lemmas.List.{drop-map}
 use Rattle.cells.specs.Packed.{pen_of, packed_cell, packed_cells}
 use Rattle.cells.specs.Drawing.{Draws, HidesFront}
-use Rattle.cells.specs.Decoded.{row_tokens, row_at, end_after, Decoded}
+use Rattle.rows.specs.Scanned.{row_end_after}
+use Rattle.cells.specs.Decoded.{row_tokens, row_at, Decoded}
 use Rattle.cells.proofs.Storing.{sets-over}
 use Rattle.cells.proofs.Fronts.{hindsight}
 
 pub decoded :
     {text : List ℕ} {start : ℕ} (before : ℕ) {d e f : Drawing} {cells : List PackedCell} {after : Option ℕ} → cells ≡ f.cells.now → pen_of d.pen ≡ boxed_start (unpack before) → d.count ≡ 0 → d.front ≡ 0
-    → Draws d (row_tokens text start) e → HidesFront e before f → after ≡ end_after text start
+    → Draws d (row_tokens text start) e → HidesFront e before f → after ≡ row_end_after text start
     → Decoded text start before d.cells.now cells (record { cells = f.count; after = after; look = f.pen.look })
 decoded {text} {start} before {d} {e} {f} s p n z w v after =
     let row = row_tokens text start in
@@ -46,5 +47,5 @@ decoded {text} {start} before {d} {e} {f} s p n z w v after =
       count =
           v.count ∙ w.count ∙ (λ i. n i + length (cells_from (p i) row)) ∙ omega (arith, cells-length (boxed_start (unpack before)) row, cells-length (row_start row (unpack before)) row);
       after = after;
-      look = sym (pack-unpack f.pen.look f.pen.packed) ∙ ap pack (ap (λ (q : Pen). q.look) ((ap pen_of v.pen ∙ w.pen) ∙ same) ∙ sym b.after);
+      look = sym (packed_again f.pen.look f.pen.packed) ∙ ap pack (ap (λ (q : Pen). q.look) ((ap pen_of v.pen ∙ w.pen) ∙ same) ∙ sym b.after);
     }

@@ -13,13 +13,12 @@ use Rattle.meaning.specs.Codes.{takes_cell}
 use Rattle.meaning.specs.Cells.{Cell, Pen, hidden_if, look_here, cell_of as cell_under, pen_after, cells_of, cells_from, pen_end, row_start, look_after_row}
 use Rattle.meaning.proofs.Logic.{by_test}
 use Rattle.meaning.proofs.LookLaws.{ThreeBits, white-bits, start-bits, unpack-pack}
-use Rattle.laws.proofs.CellFacts.{next-bits}
+use Rattle.laws.proofs.CellFacts.{here-bits, next-bits}
 use Rattle.cells.specs.declared.PackedCell.{PackedCell}
 use Rattle.cells.specs.declared.RowRead.{RowRead}
 use Rattle.cells.specs.Packed.{cell_of, cells_in, packed_cell, packed_cells}
 use Rattle.cells.specs.Decoded.{row_tokens, row_at, Decoded}
 use Rattle.cells.proofs.Storing.{take-sets, map-sets}
-use Rattle.cells.proofs.Pens.{here-bits}
 
 end-bits : (p : Pen) (ts : List Token) → ThreeBits p.look → ThreeBits (pen_end p ts).look
 unfolding pen_end pen_after

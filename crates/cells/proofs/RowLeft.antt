@@ -15,14 +15,14 @@ use Rattle.meaning.specs.Rows.{first_row}
 use Rattle.meaning.proofs.Logic.{by_test}
 use Rattle.charset.specs.declared.Reading.{Reading}
 use Rattle.charset.specs.Plain.{plain_token}
-use Rattle.charset.specs.Reading.{after_row_at}
 use Rattle.charset.proofs.Laws.{ReadOn, tokens-end, RunOn}
-use Rattle.rows.specs.Scanned.{is_ended}
-use Rattle.rows.proofs.Laws.{first-end, ended-end, first_more, ended-more, first_run, ended-run, first-none, ended-none}
+use Rattle.rows.specs.Scanned.{row_end_after}
+use Rattle.rows.proofs.Laws.{first-end, first_more, first_run, first-none}
+use Rattle.rows.proofs.RowEnds.{end-over, end-here, end_later, end_run}
 use Rattle.cells.specs.declared.drawing.Drawing.{Drawing}
 use Rattle.cells.specs.Packed.{pen_of}
 use Rattle.cells.specs.Drawing.{Draws}
-use Rattle.cells.specs.Decoded.{tokens_from, row_tokens, end_after}
+use Rattle.cells.specs.Decoded.{tokens_from, row_tokens}
 use Rattle.cells.proofs.Drawn.{cells-size, run-size, draws_none, draws_then}
 
 -- the row that starts at a position, drawn up to position i
@@ -30,12 +30,11 @@ pub record RowLeft (text : List ℕ) (start : ℕ) (d₀ d : Drawing) (i : ℕ) 
   past : List Token
   drawn : Draws d₀ past d
   row : past ++ first_row (tokens_from text i) ≡ row_tokens text start
-  ended : is_ended (tokens_from text i) ≡ is_ended (tokens_from text start)
-  next : after_row_at text i ≡ after_row_at text start
+  after : row_end_after text i ≡ row_end_after text start
   pub few : d.count ≤ i
 
 pub left-all : (text : List ℕ) (start : ℕ) (d : Drawing) → d.count ≤ start → RowLeft text start d d start
-left-all text start d h = record { past = []; drawn = draws_none d; row = refl; ended = refl; next = refl; few = h }
+left-all text start d h = record { past = []; drawn = draws_none d; row = refl; after = refl; few = h }
 
 part-size : (text : List ℕ) (from n : ℕ) → from + n ≤ length text → length (take n (drop from text)) ≡ n
 part-size text from n h = simp (length-take, length-drop) (omega arith)
@@ -62,19 +61,16 @@ module _ {text : List ℕ} {start : ℕ} {d₀ d : Drawing} {i : ℕ} (l : RowLe
   pub left_text_end : length text ≤ i → Draws d₀ (row_tokens text start) d
   left_text_end h = left-none (ap first_row (tokens-end text i h) ∙ first-none)
 
-  pub after_text_end : length text ≤ i → None ≡ end_after text start
-  after_text_end h = rw (sym l.ended ∙ ap is_ended (tokens-end text i h) ∙ ended-none)
+  pub after_text_end : length text ≤ i → None ≡ row_end_after text start
+  after_text_end h = sym (end-over text i h) ∙ l.after
 
   -- at a token that was read
   module _ {r : Reading} (o : ReadOn text i r) where
     pub left_row_end : is_row_end r.token ≡ true → Draws d₀ (row_tokens text start) d
     left_row_end e = left-none (ap first_row o.first ∙ first-end r.token _ e)
 
-    pub after_row_end : is_row_end r.token ≡ true → Some r.next ≡ end_after text start
-    after_row_end e =
-        let ended : is_ended (tokens_from text start) ≡ true = sym l.ended ∙ ap is_ended o.first ∙ ended-end r.token _ e in
-        let next : after_row_at text start ≡ r.next = sym l.next ∙ o.row ∙ rw e in
-        rw (ended, next)
+    pub after_row_end : is_row_end r.token ≡ true → Some r.next ≡ row_end_after text start
+    after_row_end e = sym (end-here o e) ∙ l.after
 
     -- the token and the run after it
     pub left_more :
@@ -87,13 +83,10 @@ module _ {text : List ℕ} {start : ℕ} {d₀ d : Drawing} {i : ℕ} (l : RowLe
         let later = tokens_from text j in
         let row : t ∷ (run ++ first_row later) ≡ first_row (tokens_from text i) =
         sym (ap first_row o.first ∙ first_more t _ n ∙ ap (λ (ts : List Token). t ∷ ts) (ap first_row u.first ∙ first_run later cs)) in
-        let ended : is_ended (tokens_from text i) ≡ is_ended later = ap is_ended o.first ∙ ended-more t _ n ∙ ap is_ended u.first ∙ ended-run later cs in
-        let next : after_row_at text i ≡ after_row_at text j = o.row ∙ rw n u.row in
         record {
           past = (l.past ++ t ∷ []) ++ run;
           drawn = draws_then (draws_then l.drawn w) v;
           row = append_assoc (l.past ++ t ∷ []) run (first_row later) ∙ append_assoc l.past (t ∷ []) _ ∙ ap (λ (ts : List Token). l.past ++ ts) row ∙ l.row;
-          ended = sym ended ∙ l.ended;
-          next = sym next ∙ l.next;
+          after = sym (end_later o n ∙ end_run u) ∙ l.after;
           few = omega (arith, l.few, o.on, u.on, v.count, run-size (pen_of e.pen) cs, run_fits d text w u);
         }

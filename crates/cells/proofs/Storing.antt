@@ -1,35 +1,17 @@
 -- Values stored in a list from a place on; what falls past its end is cut.
 -- Assumes nothing.
 use Prim.Native.Nat.{ℕ, zero, suc, ◌+◌, ◌-◌, ◌≤◌, ◌<◌, min}
-use native.Mathlib.Nat.{add-zero, add-suc, suc-add, not-suc-le-zero, le_of_suc-le-suc}
+use native.Mathlib.Nat.{not-suc-le-zero, le_of_suc-le-suc}
 use native.Mathlib.Omega.{arith}
 use mathlib.Core.Path.{◌≡◌, refl, sym, ap, ◌∙◌}
 use mathlib.Core.List.{List, [], ◌∷◌, ◌++◌, map}
-use lib.ListN.{length, set, take, drop, replicate, length-set, length-replicate, length-take, take-append-drop}
-use lib.Seq.{sets, length-sets, sets-eq, set_out, set-set, set_comm, take_all, map-set}
+use lib.ListN.{length, set, take, drop, replicate, length-replicate, length-take}
+use lib.Seq.{sets, sets-eq, set-set, set_comm, map-set}
 use Rattle.std.proofs.lemmas.List.{take-replicate}
-use Rattle.meaning.proofs.Logic.{by_le}
+use Rattle.output.specs.Output.{stored}
+use Rattle.output.proofs.Laws.{stored-cut}
 
 module _ {A : Type 0} where
-  pub sets-out : (l : List A) (k : ℕ) (xs : List A) → length l ≤ k → sets l k xs ≡ l
-  sets-out l k [] h = refl
-  sets-out l k (x ∷ xs) h = sets-out (set l k x) (suc k) xs (omega (arith, length-set l k x)) ∙ set_out l k x h
-
-  pub sets-append : (l : List A) (k : ℕ) (xs ys : List A) → sets l k (xs ++ ys) ≡ sets (sets l k xs) (k + length xs) ys
-  sets-append l k [] ys = rw add-zero
-  sets-append l k (x ∷ xs) ys = rw (sets-append (set l k x) (suc k) xs ys, suc-add, add-suc)
-
-  -- as many as there are places for
-  pub sets-cut : (l : List A) (k n : ℕ) (xs : List A) → n ≡ min (length xs) (length l - k) → sets l k (take n xs) ≡ sets l k xs
-  sets-cut l k n xs e =
-      by_le (length xs) n
-      (λ h. ap (sets l k) (take_all n xs h))
-      (λ h.
-      let size : length (take n xs) ≡ n = omega (arith, length-take n xs) in
-      sym
-      (ap (sets l k) (sym (take-append-drop n xs)) ∙ sets-append l k (take n xs) (drop n xs)
-      ∙ sets-out (sets l k (take n xs)) (k + length (take n xs)) (drop n xs) (omega (arith, size, length-sets l k (take n xs)))))
-
   set_apart : (l : List A) (k j : ℕ) (y : A) (xs : List A) → k < j → set (sets l j xs) k y ≡ sets (set l k y) j xs
   set_apart l k j y [] h = refl
   set_apart l k j y (x ∷ xs) h =
@@ -59,6 +41,7 @@ module _ {A : Type 0} where
 -- the first n replaced by copies of one, or all where there are fewer
 pub sets_copies : {A : Type 0} (l : List A) (m n k : ℕ) (x : A) {y : A} {ys : List A} → x ≡ y → n ≡ min (length l) m → k ≡ n → ys ≡ replicate (length (take k l)) x
     → ys ++ drop k l ≡ sets l 0 (replicate m y)
+unfolding stored
 sets_copies l m n k x {y} {ys} e h z s =
     let size : length (take k l) ≡ n = omega (arith, h, z, length-take k l) in
     let front : ys ≡ replicate n y = rw (s, size) (ap (replicate n) e) in
@@ -66,7 +49,7 @@ sets_copies l m n k x {y} {ys} e h z s =
     let at : 0 + length (replicate n y) ≡ n = omega (arith, length-replicate n y) in
     let fits : 0 + length (replicate n y) ≤ length l = omega (arith, at, h) in
     (λ i. front i ++ ap (λ (j : ℕ). drop j l) z i)
-    ∙ sym (sym (sets-cut l 0 n (replicate m y) few) ∙ ap (sets l 0) (take-replicate n m y (omega (arith, h))) ∙ sets-eq (replicate n y) l 0 fits ∙ rw at)
+    ∙ sym (sym (stored-cut l 0 n (replicate m y) few) ∙ ap (sets l 0) (take-replicate n m y (omega (arith, h))) ∙ sets-eq (replicate n y) l 0 fits ∙ rw at)
 
 pub map-sets : {A B : Type 0} (f : A → B) (l : List A) (k : ℕ) (xs : List A) → map f (sets l k xs) ≡ sets (map f l) k (map f xs)
 map-sets f l k [] = refl

@@ -1,15 +1,14 @@
 -- What decoding a row of a text leaves in an array, and what it tells.
 -- Assumes nothing.
-use Rattle.std.specs.Prelude.{ℕ, ◌≡◌, Option, Some, None, cond, List, length, drop}
+use Rattle.std.specs.Prelude.{ℕ, ◌≡◌, List, length, drop}
 use Rattle.std.proofs.lemmas.List.Edits.{sets}
 use Rattle.meaning.specs.declared.Token.{Token}
 use Rattle.meaning.specs.Codes.{tokens}
 use Rattle.meaning.specs.declared.Look.{Look}
 use Rattle.meaning.specs.Looks.{pack, unpack}
 use Rattle.meaning.specs.Cells.{Cell, Pen, cells_from, pen_end, row_start, cells_of_row}
-use Rattle.charset.specs.Reading.{after_row_at}
 use Rattle.meaning.specs.Rows.{first_row}
-use Rattle.rows.specs.Scanned.{is_ended}
+use Rattle.rows.specs.Scanned.{row_end_after}
 use Rattle.cells.specs.declared.PackedCell.{PackedCell}
 use Rattle.cells.specs.declared.RowRead.{RowRead}
 use Rattle.cells.specs.Packed.{packed_cells}
@@ -24,15 +23,11 @@ row_tokens text start = first_row (tokens_from text start)
 abbrev pub row_at : List ℕ → ℕ → Look → List Cell
 row_at text start before = cells_of_row before (row_tokens text start)
 
--- the position after the row end that follows it, if one does
-abbrev pub end_after : List ℕ → ℕ → Option ℕ
-end_after text start = cond (is_ended (tokens_from text start)) (Some (after_row_at text start)) None
-
 -- a row drawn from a pen: the array at entry and at exit, and the result. What has no place in the array is counted all the same.
 pub record Drawn (text : List ℕ) (start : ℕ) (pen : Pen) (cells cells' : List PackedCell) (r : RowRead) : Type 0 where
   pub held : cells' ≡ sets cells 0 (packed_cells (cells_from pen (row_tokens text start)))
   pub count : r.cells ≡ length (cells_from pen (row_tokens text start))
-  pub after : r.after ≡ end_after text start
+  pub after : r.after ≡ row_end_after text start
   pub look : r.look ≡ pack (pen_end pen (row_tokens text start)).look
 
 -- from the pen that the row starts with, after a packed look

@@ -4,7 +4,8 @@ ghost use Rattle.std.specs.Prelude.{◌≡◌, ◌∷◌, [], ◌+◌, ◌<◌, 
 ghost use Rattle.charset.specs.Plain.{plain_token};
 ghost use Rattle.meaning.specs.Codes.{takes_cell};
 ghost use Rattle.cells.specs.Fronts.{front_after};
-ghost use Rattle.cells.specs.Decoded.{row_tokens, end_after};
+ghost use Rattle.rows.specs.Scanned.{row_end_after};
+ghost use Rattle.cells.specs.Decoded.{row_tokens};
 ghost use Rattle.cells.specs.Drawing.{Puts, Draws, HidesFront};
 
 use crate::PackedCell;
@@ -12,7 +13,7 @@ use crate::pen::{BOX_END, BOX_START, PackedPen};
 use meaning::{Glyph, Token};
 
 // The array, how many cells are drawn so far, how many of them are to be hidden in front, up to and with that of the first
-// box code, and the pen after them. `front` is no Option: without a box code the count is 0, and 0 cells are hidden.
+// box code, and the pen after them. `front` is no Option, as in the definition `front_after`: without a box code 0 cells are hidden.
 #[derive(Drop)]
 pub(crate) struct Drawing<'a> {
     pub cells: &'a mut [PackedCell],
@@ -39,7 +40,9 @@ fn front_after(token: Token, front: usize, count: usize) -> usize
 }
 
 impl Drawing<'_> {
-    // One cell more, where the array has a place for it.
+    // One cell more, where the array has a place for it. It and two more ask that the count does not overflow: by `output::after` the
+    // count would be `past` in `Draws` and in `front_from` too, and so in every law of a row in hindsight. `draw` knows it, since a
+    // cell takes a byte.
     fn put(&mut self, cell: PackedCell)
         requires { self.old.count + 1 < 2 ^ 64 }
         ensures { Puts self.old (cell ∷ []) self.new }
@@ -73,31 +76,25 @@ impl Drawing<'_> {
         let pen = self.pen;
         let places = output::fitting(self.cells.len(), start, codes.len());
         for (j, &c) in codes[..places].iter().enumerate() {
-            let character = Glyph {
-                point: u16::from(c),
-                mark: 0,
-            };
+            let character = Glyph::single(u16::from(c));
             self.cells[start + j] = pen.cell(Token::Character(character));
         }
         self.count = start + codes.len();
     }
 
     // The row that starts at a position, and the position after its row end, if it has one. Most codes are plain, so the run of
-    // them after a token is stored at once. A `while`: one turn takes a token and a run, which no iterator over readings gives.
+    // them after a token is stored at once.
     pub(crate) fn draw(&mut self, text: &[u8], start: usize) -> Option<usize>
         requires { self.old.count ≤ start }
         ensures drawn { Draws self.old (row_tokens text.now start) self.new }
-        ensures after { result ≡ end_after text.now start }
+        ensures after { result ≡ row_end_after text.now start }
     {
-        let mut i = start;
-        while i < text.len() {
-            let reading = charset::token_at(text, i);
+        for (reading, end) in charset::Runs::new(text, start) {
             if rows::is_row_end(reading.token) {
                 return Some(reading.next);
             }
             self.put_token(reading.token);
-            i = charset::plain_end(text, reading.next);
-            let run = &text[reading.next..i];
+            let run = &text[reading.next..end];
             self.put_run(run);
         }
         None
@@ -109,7 +106,7 @@ impl Drawing<'_> {
     {
         let places = self.cells.len().min(self.front);
         let hidden = PackedCell::hidden(look);
-        // With the 0, for a proof knows nothing of what is stored through `..places` of a field.
+        // `0..places` and not `..places`: of the latter, over a field, a proof knows nothing.
         self.cells[0..places].fill(hidden);
     }
 }

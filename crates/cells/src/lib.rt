@@ -24,7 +24,10 @@ pub struct PackedCell {
     pub look: u16,
 }
 
-const SPACE: Glyph = Glyph { point: 32, mark: 0 };
+const SPACE: Glyph = Glyph {
+    point: 32,
+    mark: None,
+};
 
 impl PackedCell {
     // A blank of look 0, black on black.
@@ -33,9 +36,13 @@ impl PackedCell {
         look: 0,
     };
 
-    // For arrays that nothing was stored in yet: all is 0, so that such an array is cleared at once.
+    // For arrays that nothing was stored in yet: a point of 0 and no mark, so that such an array is cleared at once. No `Default`: there is
+    // no character that a `Glyph` is by default.
     pub const EMPTY: PackedCell = PackedCell {
-        character: Glyph { point: 0, mark: 0 },
+        character: Glyph {
+            point: 0,
+            mark: None,
+        },
         look: 0,
     };
 

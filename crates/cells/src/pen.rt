@@ -107,7 +107,7 @@ impl PackedPen {
     }
 
     // The cell that a token draws.
-    #[tactic(auto, unfolding(meaning::specs::Cells::cell_of, meaning::specs::Cells::hidden_if, meaning::specs::Cells::cell_character, meaning::specs::Cells::look_here), using(crate::proofs::Pens::packed_again, crate::proofs::Pens::same_height))]
+    #[tactic(auto, unfolding(meaning::specs::Cells::cell_of, meaning::specs::Cells::hidden_if, meaning::specs::Cells::cell_character, meaning::specs::Cells::look_here), using(meaning::proofs::LookLaws::packed_again, crate::proofs::Pens::same_height))]
     pub(crate) fn cell(self, token: Token) -> PackedCell
         ensures { result ≡ packed_cell (cell_of token (pen_of self)) }
     {

@@ -1,19 +1,22 @@
 -- Single codes and accent pairs, as the functions read them.
 -- Assumes nothing.
-use Prim.Native.Nat.{ℕ, zero, suc, ◌+◌, ◌*◌, ◌-◌, ◌≤◌, ◌<◌}
+use Prim.Native.Nat.{ℕ, suc, ◌+◌, ◌-◌, ◌≤◌, ◌<◌}
 use native.Mathlib.Omega.{arith}
 use mathlib.Core.Path.{◌≡◌, refl, sym, ◌∙◌}
 use mathlib.Core.Bool.{true, false, cond, not, ◌&&◌, and-false}
 use lib.Dec.{ltb, leb, eqb}
 use lib.ListN.{length, get_or, drop, get_or-eq_default}
 use borrow.Author.Tests.{lt-ltb, le-ltb, le-leb, lt-leb, ne_eqb, eqb-true, eqb-false, ltb-false, not-true}
+use Rattle.std.specs.Prelude.{Some}
+use Rattle.std.proofs.lemmas.Option.{slice_get-get_or}
 use Rattle.meaning.specs.declared.Glyph.{Glyph}
 use Rattle.meaning.specs.declared.Token.TheVariants.{Character, Control, Switch, Unlisted}
-use Rattle.meaning.specs.Tables.{latin_table, composed_table}
-use Rattle.meaning.specs.Characters.{latin, accents, accent, composed, mark_of}
+use Rattle.meaning.specs.Tables.{latin_table}
+use Rattle.meaning.specs.Characters.{latin, accents, accent, mark_of}
 use Rattle.meaning.specs.Glyphs.{marks, single}
 use Rattle.meaning.specs.Codes.{is_control, is_switch, character_of, code_token}
-use Rattle.meaning.proofs.Logic.{by_test, by_le, false_not_true, and_parts, between}
+use Rattle.std.proofs.lemmas.Bool.{and_parts, false≢true}
+use Rattle.meaning.proofs.Logic.{by_test, by_le, between}
 use Rattle.charset.specs.Plain.{is_plain, plain_token}
 use Rattle.charset.proofs.Table.{every, at}
 
@@ -77,8 +80,8 @@ pub upper_token : (c : ℕ) → 160 ≤ c → code_token c ≡ character_of (sin
 upper_token c h = as_character c (λ e. omega arith) (control_below c (omega arith)) (switch_below c (omega arith))
 
 module _ (c : ℕ) where
-  pub plain-token : is_plain c ≡ true → code_token c ≡ plain_token c
-  plain-token e =
+  pub plain_code : is_plain c ≡ true → code_token c ≡ plain_token c
+  plain_code e =
       let r = plain-range c e in
       let p : latin c ≡ c = rw (by_range_lem c (omega (arith, r.1)), le-ltb c 32 r.0, ne_eqb c 36 r.2, lt-ltb c 127 (omega (arith, r.1))) in
       as_character c (λ d. omega (arith, r.1)) (control_below c r.0) (switch_above c (omega (arith, r.1))) ∙ (rw p (unfold single in character_of_lem (single c) (λ z. omega (arith, r.0))))
@@ -86,7 +89,7 @@ module _ (c : ℕ) where
   pub control_token : is_control c ≡ true → code_token c ≡ Control c
   unfolding code_token is_control
   control_token e =
-      let ne : c ≡ 138 → ⊥ = λ d. false_not_true (rw d at e) in
+      let ne : c ≡ 138 → ⊥ = λ d. false≢true (rw d at e) in
       rw (ne_eqb c 138 ne, e, code_token)
 
   pub switch_token : is_switch c ≡ true → code_token c ≡ Switch c
@@ -99,25 +102,13 @@ module _ (c : ℕ) where
   pub no_token : c < 160 → is_plain c ≡ false → is_control c ≡ false → is_switch c ≡ false → (c ≡ 36 → ⊥) → (c ≡ 138 → ⊥) → code_token c ≡ Unlisted
   unfolding character_of single
   no_token h p n s d r =
-      let high : 32 ≤ c → 127 ≤ c = λ l. by_le c 126 (λ u. absurd (false_not_true (sym p ∙ in_range_plain c l u d))) (λ u. u) in
+      let high : 32 ≤ c → 127 ≤ c = λ l. by_le c 126 (λ u. absurd (false≢true (sym p ∙ in_range_plain c l u d))) (λ u. u) in
       let none : latin c ≡ 0 = by_range_lem c (omega arith) ∙ by_test (ltb c 32) (λ t. rw t) (λ t. rw (t, ne_eqb c 36 d, le-ltb c 127 (high (ltb-false c 32 t)), lt-ltb c 160 h)) in
       as_character c r n s ∙ rw none
 
-pub composed_alone : (a : ℕ) → composed a 0 ≡ 0
-unfolding composed
-composed_alone zero = refl
-composed_alone (suc a) = refl
-
-pub composed-at : (a l : ℕ) → 0 < a → 0 < l → composed a l ≡ get_or composed_table (52 * (a - 1) + (l - 1)) 0
-unfolding composed
-composed-at zero l h k = absurd (omega arith)
-composed-at (suc a) zero h k = absurd (omega arith)
-composed-at (suc a) (suc l) h k = let e : 52 * (suc a - 1) + (suc l - 1) ≡ 52 * a + l = omega arith in rw e
-
-pub mark_at : (a : ℕ) → 0 < a → mark_of a ≡ get_or marks (a - 1) 0
-unfolding mark_of
-mark_at zero h = absurd (omega arith)
-mark_at (suc a) h = let e : suc a - 1 ≡ a = omega arith in rw e
+pub mark_at : (a : ℕ) → a < 13 → mark_of (suc a) ≡ Some (get_or marks a 0)
+unfolding mark_of marks
+mark_at a h = slice_get-get_or marks a 0 h
 
 -- the numbers of the accents, by ranges of codes
 abbrev accent_by_range : ℕ → ℕ

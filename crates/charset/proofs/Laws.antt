@@ -3,13 +3,13 @@
 use Prim.Native.Nat.{ℕ, zero, suc, ◌+◌, ◌-◌, ◌≤◌, ◌<◌}
 use native.Mathlib.Nat.{add-zero}
 use native.Mathlib.Omega.{arith}
-use native.Mathlib.Numerals.{add-one}
 use mathlib.Core.Path.{◌≡◌, refl, ap, ◌∙◌}
 use mathlib.Core.Bool.{true, false, cond}
 use mathlib.Core.List.{List, [], ◌∷◌, map, ◌++◌}
 use lib.ListN.{length, get_or, take, drop, length-drop, drop_of_length-le}
-use lib.Seq.{drop-cons, drop-drop}
+use lib.Seq.{drop-drop}
 use borrow.Author.Tests.{lt-ltb, lt-leb, ltb-false}
+use Rattle.std.proofs.lemmas.List.{drop_more}
 use Rattle.meaning.specs.declared.Token.{Token}
 use Rattle.meaning.specs.Characters.{accent}
 use Rattle.meaning.specs.Codes.{is_accent, code_token, pair_token, tokens, is_row_end}
@@ -22,8 +22,8 @@ use Rattle.meaning.proofs.TextPlaces.{size_pair, size-code, size-last}
 use Rattle.charset.specs.declared.Reading.{Reading}
 use Rattle.charset.specs.Reading.{is_pair_at, reading_at, token_at, next_at, after_row_at}
 use Rattle.charset.specs.Plain.{is_plain, plain_token, plain_end}
-use Rattle.charset.proofs.Codes.{plain-range, plain-token}
-use Rattle.charset.proofs.Positions.{by_reading, next-on, row_step, FirstReading}
+use Rattle.charset.proofs.Codes.{plain-range, plain_code}
+use Rattle.charset.proofs.Positions.{by_reading, next-on, row_step}
 
 -- a code that is no accent, or has none after it
 first-single : (c : ℕ) (cs : List ℕ) → is_accent c ≡ false → tokens (c ∷ cs) ≡ code_token c ∷ tokens cs
@@ -33,9 +33,6 @@ first-single c (d ∷ cs) a = tokens-code c d cs a
 first-last : (c : ℕ) (cs : List ℕ) → cs ≡ [] → tokens (c ∷ cs) ≡ code_token c ∷ tokens cs
 unfolding tokens
 first-last c cs e = rw e
-
-drop-next : (s : List ℕ) (i : ℕ) → i < length s → drop i s ≡ get_or s i 0 ∷ drop (i + 1) s
-drop-next s i h = rw (add-one, drop-cons s i 0)
 
 module _ (s : List ℕ) (i : ℕ) where
   pub tokens-end : length s ≤ i → tokens (drop i s) ≡ []
@@ -49,13 +46,13 @@ module _ (s : List ℕ) (i : ℕ) where
   tokens_pair h a =
       let here : i < length s = omega arith in
       let two : i + 1 + 1 ≡ i + 2 = omega arith in
-      rw (drop-next s i here, drop-next s (i + 1) h, two) (first-pair (get_or s i 0) (get_or s (i + 1) 0) (drop (i + 2) s) a)
+      rw (drop_more s i 0 here, drop_more s (i + 1) 0 h, two) (first-pair (get_or s i 0) (get_or s (i + 1) 0) (drop (i + 2) s) a)
 
   -- any other code, and an accent at the end
   tokens-single : i < length s → is_pair_at s i ≡ false → tokens (drop i s) ≡ code_token (get_or s i 0) ∷ tokens (drop (i + 1) s)
   unfolding is_pair_at
   tokens-single h p =
-      rw (drop-next s i h)
+      rw (drop_more s i 0 h)
       (by_test (is_accent (get_or s i 0))
       (λ a. first-last (get_or s i 0) (drop (i + 1) s) (drop_of_length-le s (ltb-false (i + 1) (length s) (rw a at p))))
       (λ a. first-single (get_or s i 0) (drop (i + 1) s) a))
@@ -64,12 +61,12 @@ module _ (s : List ℕ) (i : ℕ) where
   size-two : i + 1 < length s → is_accent (get_or s i 0) ≡ true → first_size (drop i s) ≡ 2
   size-two h a =
       let here : i < length s = omega arith in
-      rw (drop-next s i here, drop-next s (i + 1) h) (size_pair (get_or s i 0) (get_or s (i + 1) 0) (drop (i + 1 + 1) s) a)
+      rw (drop_more s i 0 here, drop_more s (i + 1) 0 h) (size_pair (get_or s i 0) (get_or s (i + 1) 0) (drop (i + 1 + 1) s) a)
 
   size-one : i < length s → is_pair_at s i ≡ false → first_size (drop i s) ≡ 1
   unfolding is_pair_at
   size-one h p =
-      rw (drop-next s i h)
+      rw (drop_more s i 0 h)
       (by_test (is_accent (get_or s i 0))
       (λ a. size-last (get_or s i 0) (drop (i + 1) s) (drop_of_length-le s (ltb-false (i + 1) (length s) (rw a at p))))
       (λ a. size-code (get_or s i 0) (drop (i + 1) s) a))
@@ -106,10 +103,6 @@ module _ (s : List ℕ) (i : ℕ) (h : i < length s) where
 pub read-on : {s : List ℕ} {i : ℕ} {r : Reading} → r ≡ reading_at s i → i < length s → ReadOn s i r
 read-on {s} {i} e h = rw e (read_at s i h)
 
--- and of the first of the readings from a position on
-pub first-on : {s : List ℕ} {i : ℕ} {x : ℕ × Reading} {xs : List (ℕ × Reading)} → FirstReading s i x xs → ReadOn s i x.1
-first-on f = read-on f.read f.within
-
 -- a low code is no accent
 low-single : (c : ℕ) → c < 160 → is_accent c ≡ false
 unfolding is_accent accent
@@ -127,7 +120,7 @@ tokens-run (c ∷ cs) =
     by_test (is_plain c)
     (λ p.
     let r = plain-range c p in
-    rw (while_on is_plain c cs p, first-single c cs (low-single c (omega (arith, r.1))), plain-token c p)
+    rw (while_on is_plain c cs p, first-single c cs (low-single c (omega (arith, r.1))), plain_code c p)
     (ap (λ ts. plain_token c ∷ ts) (tokens-run cs)))
     (λ p. rw (while_off is_plain c cs p))
 
@@ -138,7 +131,7 @@ row_plain s i h p =
     row_step s i h
     ∙ ap (λ (r : Reading). cond (is_row_end r.token) r.next (after_row_at s r.next))
     (low_reading s i h (omega (arith, (plain-range (get_or s i 0) p).1)))
-    ∙ ap (λ (t : Token). cond (is_row_end t) (i + 1) (after_row_at s (i + 1))) (plain-token (get_or s i 0) p)
+    ∙ ap (λ (t : Token). cond (is_row_end t) (i + 1) (after_row_at s (i + 1))) (plain_code (get_or s i 0) p)
 
 row-passes : (k : ℕ) (s : List ℕ) (i : ℕ) → length (take_while is_plain (drop i s)) ≡ k → after_row_at s i ≡ after_row_at s (i + k)
 row-passes zero s i e = rw add-zero
@@ -164,6 +157,10 @@ unfolding plain_end
 run_on {s} {i} p h =
     let size : plain_end s i - i ≡ length (take_while is_plain (drop i s)) = omega arith in
     rw p (record { first = rw (size, take_while_lem is_plain (drop i s)) (rw drop-drop at (tokens-run (drop i s))); on = omega arith; within = omega (arith, rw length-drop at (while_short is_plain (drop i s))); row = row-passes (length (take_while is_plain (drop i s))) s i refl })
+
+-- no codes at all are a run
+pub no_run : (s : List ℕ) (i : ℕ) → i ≤ length s → RunOn s i i
+no_run s i h = let none : i - i ≡ 0 = omega arith in record { first = rw none refl; on = omega arith; within = h; row = refl }
 
 -- a token, and the run after it
 pub record TurnOn (s : List ℕ) (i : ℕ) (r : Reading) (e : ℕ) : Type 0 where

@@ -6,7 +6,9 @@ use mathlib.Core.Path.{◌≡◌, refl, sym, ap, ◌∙◌}
 use mathlib.Core.Bool.{true, false, ◌&&◌}
 use lib.Dec.{leb}
 use borrow.Author.Tests.{le-leb, eq-eqb, ne_eqb}
-use Rattle.std.specs.Prelude.{Option, Some, None}
+use Rattle.std.specs.Prelude.{Option, Some, None, MatchOption, IsSomeAnd}
+use Rattle.std.proofs.lemmas.Option.{MatchOption-at_none, MatchOption-at_some}
+use Rattle.meaning.specs.declared.Token.{Token}
 use Rattle.meaning.specs.declared.Glyph.{Glyph}
 use Rattle.meaning.specs.declared.Token.TheVariants.{Character, Unlisted}
 use Rattle.meaning.specs.Glyphs.{single}
@@ -16,7 +18,7 @@ use Rattle.meaning.proofs.Logic.{by_test, by_le, between}
 use Rattle.charset.specs.Points.{point_of, index_of, glyph_of}
 use Rattle.charset.proofs.Codes.{accent-ranged}
 
-pub point_some : (n : ℕ) → (n ≡ 0 → ⊥) → point_of n ≡ Some n
+point_some : (n : ℕ) → (n ≡ 0 → ⊥) → point_of n ≡ Some n
 unfolding point_of
 point_some zero h = absurd (h refl)
 point_some (suc n) h = refl
@@ -31,15 +33,15 @@ unfolding point_of
 point-is zero e = cc
 point-is (suc n) e = (cc, λ z. omega arith)
 
-pub index-zero : (n : ℕ) → index_of n ≡ None → n ≡ 0
+pub index_zero : (n : ℕ) → index_of n ≡ None → n ≡ 0
 unfolding index_of
-index-zero zero e = refl
-index-zero (suc n) e = cc
+index_zero zero e = refl
+index_zero (suc n) e = cc
 
-pub index-is : (n : ℕ) {k : ℕ} → index_of n ≡ Some k → n ≡ suc k
+pub index_is : (n : ℕ) {k : ℕ} → index_of n ≡ Some k → n ≡ suc k
 unfolding index_of
-index-is zero e = cc
-index-is (suc n) e = cc
+index_is zero e = cc
+index_is (suc n) e = cc
 
 index-suc : (n k : ℕ) → n ≡ suc k → index_of n ≡ Some k
 unfolding index_of
@@ -95,9 +97,9 @@ module _ (c : ℕ) where
       let no : letter c ≡ 0 → ⊥ = λ z. omega arith in
       sym (ap point_of (rw (ne_eqb c 32 ne, ne_eqb (letter c) 0 no)) ∙ point_some c some)
 
-  pub base-none : (c ≡ 32 → ⊥) → letter c ≡ 0 → None ≡ point_of (base c)
+  pub base_none : (c ≡ 32 → ⊥) → letter c ≡ 0 → None ≡ point_of (base c)
   unfolding base point_of
-  base-none ne e = rw (ne_eqb c 32 ne, eq-eqb (letter c) 0 e)
+  base_none ne e = rw (ne_eqb c 32 ne, eq-eqb (letter c) 0 e)
 
 pub base_space : (c : ℕ) → c ≡ 32 → Some 160 ≡ point_of (base c)
 unfolding base point_of
@@ -127,54 +129,42 @@ module _ (a c : ℕ) where
       let w = point-is _ e in
       sym (ap glyph_of (whole w.1 ∙ ap single w.0) ∙ glyph_some (single q) (unfold single in (λ z. w.1 (w.0 ∙ z))))
 
-  pub pair_marked : {b : ℕ} → point_of (composed a (letter c)) ≡ None → point_of (base c) ≡ Some b → Some (record { point = b; mark = mark_of a }) ≡ glyph_of (accented a c)
-  pair_marked {b} e f =
+  pub pair_marked : {b m : ℕ} → point_of (composed a (letter c)) ≡ None → point_of (base c) ≡ Some b → mark_of a ≡ Some m → Some (record { point = b; mark = Some m }) ≡ glyph_of (accented a c)
+  pair_marked {b} {m} e f k =
       let w = point-is _ f in
-      sym (ap glyph_of (marked (point-zero _ e) ∙ ap (λ (n : ℕ). record { point = n; mark = mark_of a }) w.0) ∙ glyph_some (record { point = b; mark = mark_of a }) (λ z. w.1 (w.0 ∙ z)))
+      sym (ap glyph_of (marked (point-zero _ e) ∙ ap (λ (n : ℕ). record { point = n; mark = mark_of a }) w.0 ∙ ap (λ (o : Option ℕ). record { point = b; mark = o }) k) ∙ glyph_some (record { point = b; mark = Some m }) (λ z. w.1 (w.0 ∙ z)))
 
-  pub pair-none : point_of (composed a (letter c)) ≡ None → point_of (base c) ≡ None → None ≡ glyph_of (accented a c)
-  pair-none e f = sym (ap glyph_of (marked (point-zero _ e)) ∙ glyph-none (record { point = base c; mark = mark_of a }) (point-zero _ f))
+  pub pair_none : point_of (composed a (letter c)) ≡ None → point_of (base c) ≡ None → None ≡ glyph_of (accented a c)
+  pair_none e f = sym (ap glyph_of (marked (point-zero _ e)) ∙ glyph-none (record { point = base c; mark = mark_of a }) (point-zero _ f))
 
--- the token of a character
-pub some-token : (g : Glyph) {h : Glyph} → glyph_of g ≡ Some h → Character h ≡ character_of g
+-- the token of a character that may be missing
+pub token_of : (g : Glyph) {o : Option Glyph} {r : Token} → o ≡ glyph_of g → MatchOption o (r ≡ Unlisted) (λ x. r ≡ Character x) → r ≡ character_of g
 unfolding character_of
-some-token g {h} e =
+token_of g e m =
     by_le 1 g.point
-    (λ p.
-    let ne : g.point ≡ 0 → ⊥ = λ z. omega arith in
-    let m = glyph_some g ne in
-    let n : h ≡ g = cc in
-    rw (ne_eqb g.point 0 ne) (ap Character n))
-    (λ p. let z : g.point ≡ 0 = omega arith in let m = glyph-none g z in cc)
+    (λ p. let ne : g.point ≡ 0 → ⊥ = λ z. omega arith in rw (ne_eqb g.point 0 ne) (MatchOption-at_some _ _ g (e ∙ glyph_some g ne) m))
+    (λ p. let z : g.point ≡ 0 = omega arith in rw (eq-eqb g.point 0 z) (MatchOption-at_none _ _ (e ∙ glyph-none g z) m))
 
-pub no-token : (g : Glyph) → glyph_of g ≡ None → Unlisted ≡ character_of g
-unfolding character_of
-no-token g e =
-    by_le 1 g.point
-    (λ p. let m = glyph_some g (λ z. omega arith) in cc)
-    (λ p. let z : g.point ≡ 0 = omega arith in rw (eq-eqb g.point 0 z))
-
-pub point-token : (n : ℕ) {q : ℕ} → point_of n ≡ Some q → Character (single q) ≡ character_of (single n)
-unfolding character_of single
-point-token n {q} e = let w = point-is n e in rw (ne_eqb n 0 w.1) (ap (λ (k : ℕ). Character (single k)) (sym w.0))
-
-pub no-point-token : (n : ℕ) → point_of n ≡ None → Unlisted ≡ character_of (single n)
-unfolding character_of single
-no-point-token n e = rw (point-zero n e)
+-- the character of a code point that may be missing
+pub single_of : (n : ℕ) {o : Option ℕ} (r : Option Glyph) → o ≡ point_of n → MatchOption o (r ≡ None) (λ p. IsSomeAnd r (λ g. g ≡ single p)) → r ≡ glyph_of (single n)
+unfolding point_of glyph_of single
+single_of zero r e m = MatchOption-at_none _ _ e m
+single_of (suc n) None e m = absurd (MatchOption-at_some _ _ _ e m)
+single_of (suc n) (Some g) e m = ap Some (MatchOption-at_some _ _ _ e m) ∙ sym (glyph_some (single (suc n)) (λ z. omega (arith, z)))
 
 -- whether a code is an accent
-pub accent-is : (c : ℕ) {k : ℕ} → index_of (accent c) ≡ Some k → (is_accent c ≡ true) × (accent c ≡ suc k)
+pub accent_is : (c : ℕ) {k : ℕ} → index_of (accent c) ≡ Some k → (is_accent c ≡ true) × (accent c ≡ suc k)
 unfolding is_accent
-accent-is c {k} e = let w = index-is _ e in (rw (ne_eqb (accent c) 0 (λ z. omega (arith, w))), w)
+accent_is c {k} e = let w = index_is _ e in (rw (ne_eqb (accent c) 0 (λ z. omega (arith, w))), w)
 
 pub accent_not : (c : ℕ) → index_of (accent c) ≡ None → is_accent c ≡ false
 unfolding is_accent
-accent_not c e = rw (index-zero _ e)
+accent_not c e = rw (index_zero _ e)
 
 -- the token of an accent by its number
-pub pair-of : (c d : ℕ) {k : ℕ} → accent c ≡ suc k → character_of (accented (suc k) d) ≡ pair_token c d
+pub pair_of : (c d : ℕ) {k : ℕ} → accent c ≡ suc k → character_of (accented (suc k) d) ≡ pair_token c d
 unfolding pair_token
-pair-of c d e = rw e
+pair_of c d e = rw e
 
 -- an Option that is no value
 pub none_else : {A : Type 0} (o : Option A) → ((x : A) → o ≡ Some x → ⊥) → o ≡ None

@@ -7,7 +7,7 @@ use mathlib.Core.Path.{◌≡◌}
 use mathlib.Core.Bool.{Bool, true, ◌&&◌}
 use mathlib.Core.List.{List, [], ◌∷◌}
 use lib.ListN.{length, get_or}
-use Rattle.meaning.proofs.Logic.{and_parts}
+use Rattle.std.proofs.lemmas.Bool.{and_parts}
 
 -- the test f passes at each place, counted from i, and its entry
 abbrev pub every : (ℕ → ℕ → Bool) → ℕ → List ℕ → Bool

@@ -2,3 +2,4 @@ pub mod Plain
 pub mod Points
 pub mod Reading
 pub mod Readings
+pub mod Runs

@@ -1,10 +1,12 @@
--- The reading of a text at a position: the token there and the position after it, and the positions after a row and a row end.
+-- The reading of a text at a position: the token there and the position after it, what is met from a position on, and the positions
+-- after a row and a row end.
 -- Assumes nothing.
 use Rattle.std.specs.Prelude.{ℕ, zero, suc, ◌+◌, ◌-◌, Bool, true, false, cond, ◌&&◌, List, [], ◌∷◌, ltb, length, get_or, Option, Some, None}
 use Rattle.meaning.specs.declared.Token.{Token}
 use Rattle.meaning.specs.declared.Token.TheVariants.{Unlisted}
 use Rattle.meaning.specs.Codes.{is_accent, code_token, pair_token, is_row_end}
 use Rattle.charset.specs.declared.Reading.{Reading}
+use Rattle.charset.specs.Plain.{plain_end}
 
 -- an accent with a code after it
 unfoldable pub is_pair_at : List ℕ → ℕ → Bool
@@ -29,13 +31,25 @@ token_at s i = (reading_at s i).token
 abbrev pub next_at : List ℕ → ℕ → ℕ
 next_at s i = (reading_at s i).next
 
--- the readings from a position on, each with its position, in at most n turns
-unfoldable pub readings_in : ℕ → List ℕ → ℕ → List (ℕ × Reading)
-readings_in zero s i = []
-readings_in (suc n) s i = elim (ltb i (length s)) [ true ↦ (i, reading_at s i) ∷ readings_in n s (next_at s i) | false ↦ [] ]
+-- the items that are met from a position on in a text of a size, each at the position where the one before it ends, in at most n turns
+unfoldable pub met_in : {A : Type 0} → (ℕ → A) → (A → ℕ) → ℕ → ℕ → ℕ → List A
+met_in item end zero size i = []
+met_in item end (suc n) size i = elim (ltb i size) [ true ↦ item i ∷ met_in item end n size (end (item i)) | false ↦ [] ]
 
+abbrev pub met_from : {A : Type 0} → (ℕ → A) → (A → ℕ) → ℕ → ℕ → List A
+met_from item end size i = met_in item end (size - i) size i
+
+-- the readings from a position on, each with its position
 unfoldable pub readings_from : List ℕ → ℕ → List (ℕ × Reading)
-readings_from s i = readings_in (length s - i) s i
+readings_from s i = met_from (λ j. (j, reading_at s j)) (λ x. x.1.next) (length s) i
+
+-- where the run of plain codes after a reading ends; a row end has none, since the row is over
+unfoldable pub run_end : List ℕ → Reading → ℕ
+run_end s r = cond (is_row_end r.token) r.next (plain_end s r.next)
+
+-- and those that are met where the run after each is passed over, each with the position after that run
+unfoldable pub runs_from : List ℕ → ℕ → List (Reading × ℕ)
+runs_from s i = met_from (λ j. (reading_at s j, run_end s (reading_at s j))) (λ x. x.1) (length s) i
 
 -- the position after a row end that stands at i; where none does, i
 unfoldable pub after_end_at : List ℕ → ℕ → ℕ

@@ -1,5 +1,5 @@
 // The composed letters, one table of 13 by 52, a row for each accent: the code points of A to Z and of a to z with it; 0 where there
-// is none.
+// is none, as `Tables` has it: `point_of` makes an Option where an entry is read.
 
 ghost use Rattle.std.specs.Prelude.{◌≡◌, ◌+◌, ◌*◌, ◌<◌, get_or};
 ghost use Rattle.meaning.specs.Tables.{composed_table};
@@ -89,7 +89,7 @@ const CARON: [u16; 52] = [
     353, 357, 468, 0, 0, 0, 0, 382,
 ];
 
-// The row is told first, since an array is laid out where it is read.
+// A `match` on the row: in one array of 676 letters no row would have the name of its accent.
 pub(crate) fn entry(row: usize, column: usize) -> u16
     requires { column < 52 }
     ensures { result ≡ get_or composed_table (52 * row + column) 0 }

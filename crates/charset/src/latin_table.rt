@@ -1,4 +1,5 @@
-// The code point of each code from A0h to FFh that stands for a character by itself; 0 for none.
+// The code point of each code from A0h to FFh that stands for a character by itself; 0 for none, as `Tables` has it:
+// `point_of` makes an Option where an entry is read.
 pub(crate) const UPPER: [u16; 96] = [
     // A0h to AFh
     160, 161, 162, 163, 36, 165, 0, 167, 0, 8216, 8220, 171, 8592, 8593, 8594, 8595,

@@ -7,8 +7,9 @@ ghost use Rattle.std.specs.Iterator.{YieldsFirst, item_count};
 ghost use Rattle.meaning.specs.Characters.{accented};
 ghost use Rattle.meaning.specs.Codes.{is_control, is_switch, character_of, code_token};
 ghost use Rattle.charset.specs.Plain.{is_plain, plain_end};
-ghost use Rattle.charset.specs.Reading.{pair_at, reading_at, readings_from};
+ghost use Rattle.charset.specs.Reading.{pair_at, reading_at, readings_from, runs_from, run_end};
 ghost use Rattle.charset.specs.Readings.{readings_left};
+ghost use Rattle.charset.specs.Runs.{runs_left};
 
 use meaning::{Glyph, Token};
 
@@ -16,29 +17,29 @@ mod characters;
 mod composed_table;
 mod latin_table;
 
-// The token at a position of a text, and the position after it.
+// The token at a position of a text, and the position after it. A text is read by positions and not by a cursor: rules tell offsets.
 #[derive(Clone, Copy)]
 pub struct Reading {
     pub token: Token,
     pub next: usize,
 }
 
-// No branch: each test is made. With `matches!` the verdict over a text takes 8 % more instructions.
 #[tactic(auto, unfolding(meaning::specs::Codes::is_control))]
 fn is_control(c: u8) -> bool
     ensures { result ≡ is_control c }
 {
-    (c < 8) | (c == 10) | (c == 11) | (c == 13) | (c == 28) | (c == 29)
+    matches!(c, 0..=7 | 10 | 11 | 13 | 28 | 29)
 }
 
 #[tactic(auto, unfolding(meaning::specs::Codes::is_switch))]
 fn is_switch(c: u8) -> bool
     ensures { result ≡ is_switch c }
 {
-    (128 <= c) & (c <= 131)
+    matches!(c, 128..=131)
 }
 
-// A code that stands for the character of the same number.
+// A code that stands for the character of the same number. No branch, each test is made: with `matches!` a film took a fifth more time,
+// and the bar is a tenth (DECISIONS.md).
 #[tactic(auto, unfolding(crate::specs::Plain::is_plain))]
 fn is_plain(c: u8) -> bool
     ensures { result ≡ is_plain c }
@@ -47,12 +48,13 @@ fn is_plain(c: u8) -> bool
 }
 
 // A code below A0h: no table is read for it.
+#[tactic(auto, using(crate::proofs::Codes::plain_code, crate::proofs::Codes::control_token, crate::proofs::Codes::switch_token, crate::proofs::Codes::no_token))]
 fn low_token(c: u8) -> Token
     requires { c < 160 }
     ensures { result ≡ code_token c }
 {
     if is_plain(c) {
-        return Token::Character(characters::single(c as u16));
+        return Token::Character(Glyph::single(u16::from(c)));
     }
     if is_control(c) {
         return Token::Control(c);
@@ -61,7 +63,7 @@ fn low_token(c: u8) -> Token
         return Token::Switch(c);
     }
     match c {
-        36 => Token::Character(characters::single(164)),
+        36 => Token::Character(Glyph::single(164)),
         138 => Token::RowEnd,
         _ => Token::Unlisted,
     }
@@ -73,45 +75,38 @@ fn code_token(c: u8) -> Token
     if c < 160 {
         return low_token(c);
     }
-    match characters::upper(c) {
-        Some(point) => Token::Character(characters::single(point)),
-        None => Token::Unlisted,
-    }
+    characters::upper(c).map_or(Token::Unlisted, Token::Character)
 }
 
-// An accent, by its number, and the code after it.
+// An accent, by its number as in the definition `accented`, and the code after it.
 fn pair_token(a: usize, c: u8) -> Token
     requires { a < 13 }
     ensures { result ≡ character_of (accented (suc a) c) }
 {
-    match characters::pair(a, c) {
-        Some(glyph) => Token::Character(glyph),
-        None => Token::Unlisted,
-    }
+    characters::pair(a, c).map_or(Token::Unlisted, Token::Character)
 }
 
 // The token of a code with the one at a position after it, where the code is an accent and the text has the position.
+#[tactic(auto, using(crate::proofs::Points::accent_is, crate::proofs::Points::accent_not, crate::proofs::Points::pair_of, crate::proofs::Positions::pair_here, crate::proofs::Positions::pair_other, crate::proofs::Positions::pair_short))]
 fn pair_at(text: &[u8], c: u8, after: usize) -> Option<Token>
     ensures { result ≡ pair_at text.now c after }
 {
     let a = characters::accent(c)?;
-    if after < text.len() {
-        return Some(pair_token(a, text[after]));
-    }
-    None
+    let d = *text.get(after)?;
+    Some(pair_token(a, d))
 }
 
-// An accent is read with the code after it, where there is one.
+// An accent is read with the code after it, where there is one. Behind the text's end what is read is not listed, as the definition has it.
+#[tactic(auto, using(crate::proofs::Positions::read_over, crate::proofs::Positions::read_some, crate::proofs::Positions::read_none))]
 pub fn reading_at(text: &[u8], i: usize) -> Reading
     ensures { result ≡ reading_at text.now i }
 {
-    if text.len() <= i {
+    let Some(&c) = text.get(i) else {
         return Reading {
             token: Token::Unlisted,
             next: i,
         };
-    }
-    let c = text[i];
+    };
     let after = i + 1;
     match pair_at(text, c, after) {
         Some(token) => Reading { token, next: i + 2 },
@@ -122,21 +117,19 @@ pub fn reading_at(text: &[u8], i: usize) -> Reading
     }
 }
 
-// The same for loops over a text: nearly every code is a low one, and what is done for it here is little enough to be
-// compiled into the loop.
+// The same for a loop over a text: nearly every code is a low one, and what is done for it here is little enough to be compiled into
+// the loop, that of `Runs`: by `reading_at` a film took 3 % more instructions. Both are public, and stay for their promises (TRACE.md).
+#[tactic(auto, using(crate::proofs::Laws::low_reading))]
 pub fn token_at(text: &[u8], i: usize) -> Reading
     ensures { result ≡ reading_at text.now i }
 {
-    if i < text.len() {
-        let c = text[i];
-        if c < 160 {
-            return Reading {
-                token: low_token(c),
-                next: i + 1,
-            };
-        }
+    match text.get(i) {
+        Some(&c) if c < 160 => Reading {
+            token: low_token(c),
+            next: i + 1,
+        },
+        _ => reading_at(text, i),
     }
-    reading_at(text, i)
 }
 
 // The readings of a text from a position on, each with its position.
@@ -161,6 +154,7 @@ impl<'a> Iterator for Readings<'a> {
 
     ghost remaining = { item_count readings_left };
 
+    #[tactic(auto, using(crate::proofs::Positions::readings_more, crate::proofs::Positions::readings_over))]
     fn next(&mut self) -> Option<(usize, Reading)> {
         let at = self.at;
         if self.text.len() <= at {
@@ -172,7 +166,7 @@ impl<'a> Iterator for Readings<'a> {
     }
 }
 
-// Where the run of plain codes from a position on ends.
+// Where the run of plain codes from a position on ends. A test and no `get(start..)` (tried): the proof then finds no end.
 pub fn plain_end(text: &[u8], start: usize) -> usize
     ensures { result ≡ plain_end text.now start }
 {
@@ -185,4 +179,53 @@ pub fn plain_end(text: &[u8], start: usize) -> usize
             .iter()
             .position(|c| !is_plain(*c))
             .unwrap_or(rest.len())
+}
+
+// Where the run of plain codes after a reading ends. A row end has none, since the row is over.
+#[tactic(auto, unfolding(crate::specs::Reading::run_end, meaning::specs::Codes::is_row_end))]
+fn run_end(text: &[u8], read: Reading) -> usize
+    ensures { result ≡ run_end text.now read }
+{
+    match read.token {
+        Token::RowEnd => read.next,
+        _ => plain_end(text, read.next),
+    }
+}
+
+// The readings of a text from a position on where the run of plain codes after each is passed over, each with the position after
+// that run.
+#[derive(Drop)]
+pub struct Runs<'a> {
+    text: &'a [u8],
+    at: usize,
+}
+
+impl<'a> Runs<'a> {
+    pub fn new(text: &'a [u8], start: usize) -> Runs<'a>
+        ensures { runs_left result ≡ runs_from text.now start }
+    {
+        Runs { text, at: start }
+    }
+}
+
+impl<'a> Iterator for Runs<'a> {
+    type Item = (Reading, usize);
+
+    ghost next_gives = { YieldsFirst runs_left };
+
+    ghost remaining = { item_count runs_left };
+
+    // Compiled into its loops: as a function of its own a conversion took a tenth more instructions.
+    #[inline(always)]
+    #[tactic(auto, using(crate::proofs::Positions::runs_more, crate::proofs::Positions::runs_over))]
+    fn next(&mut self) -> Option<(Reading, usize)> {
+        let at = self.at;
+        if self.text.len() <= at {
+            return None;
+        }
+        let read = token_at(self.text, at);
+        let end = run_end(self.text, read);
+        self.at = end;
+        Some((read, end))
+    }
 }

@@ -2,26 +2,18 @@
 -- Assumes nothing.
 use Prim.Native.Nat.{ℕ, suc, ◌+◌, ◌-◌, ◌*◌, ◌≤◌, ◌<◌, ◌^◌, min}
 use native.Mathlib.Omega.{arith}
-use mathlib.Core.Path.{◌≡◌, refl, sym, ◌∙◌}
+use mathlib.Core.Path.{◌≡◌, refl, ◌∙◌}
 use mathlib.Core.Bool.{true, false}
 use mathlib.Core.List.{List}
-use lib.ListN.{length, drop, drop_of_length-le}
+use lib.ListN.{length, drop}
 use lib.Seq.{drop-drop}
 use Rattle.meaning.specs.declared.Format.{Format}
 use Rattle.meaning.specs.Refusals.{is_good}
 use Rattle.meaning.specs.Lists.{field}
 use Rattle.meaning.specs.Blocks.{block_size, blocks}
-use Rattle.meaning.proofs.Logic.{by_le}
 use Rattle.output.specs.Output.{past}
-use Rattle.checking.specs.declared.blocks.Pass.{Pass}
+use Rattle.output.proofs.Laws.{drop_past}
 use Rattle.checking.specs.Passing.{Passing, more, block_taken, pass_all}
-
--- a position that saturates lies past the end of any bytes, as the product does
-drop_past : (s : List ℕ) (n : ℕ) → length s < 2 ^ 64 → drop (min n 18446744073709551615) s ≡ drop n s
-drop_past s n h =
-    by_le (length s) n
-    (λ p. drop_of_length-le s {i = min n 18446744073709551615} (omega arith) ∙ sym (drop_of_length-le s p))
-    (λ p. let e : min n 18446744073709551615 ≡ n = omega arith in rw e)
 
 module _ (f : Format) (bytes : List ℕ) (n first : ℕ) (start : Passing) where
   -- after k blocks: what is still to be passed

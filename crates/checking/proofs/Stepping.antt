@@ -6,21 +6,22 @@ use mathlib.Core.Path.{◌≡◌, refl, sym, ap, ◌∙◌}
 use mathlib.Core.Bool.{Bool, true, false, not, ◌&&◌}
 use mathlib.Core.List.{List, [], ◌∷◌}
 use mathlib.Core.Option.{some, some-injective}
-use Rattle.std.specs.Prelude.{Result, Ok, Err, None}
+use Rattle.std.specs.Prelude.{Result, Ok, Err}
 use lib.ListN.{length, drop, length-drop}
 use lib.Seq.{take_all}
 use Rattle.meaning.specs.declared.Refusal.{Refusal}
 use Rattle.meaning.specs.declared.Counts.{Counts}
 use Rattle.meaning.specs.declared.Header.{Header}
 use Rattle.meaning.specs.declared.Format.{Format}
-use Rattle.meaning.specs.Refusals.{is_good, kept, verdict}
+use Rattle.meaning.specs.Refusals.{no_refusal, is_good, kept, verdict}
 use Rattle.meaning.specs.Lists.{field}
 use Rattle.meaning.specs.Blocks.{gsi_size, blocks, header_of, block_text}
 use Rattle.meaning.specs.Sets.{Event, no_blocks, is_user, advance}
 use Rattle.meaning.specs.Sets.Event.{closed}
-use Rattle.meaning.specs.Walk.{no_counts, total, counted_by, counted, is_open, begun, set_rule, Outcome, finish, judge, step, steps, walk}
+use Rattle.meaning.specs.Walk.{total, counted_by, counted, is_open, begun, set_rule, Outcome, finish, judge, step, steps, walk}
 use Rattle.meaning.specs.Walk.Outcome.{refused, accepted}
-use Rattle.meaning.proofs.Logic.{by_test, by_cond, none_not_some}
+use mathlib.Core.Option.{none-ne-some}
+use Rattle.meaning.proofs.Logic.{by_test, by_cond}
 use Rattle.meaning.proofs.RefusalLaws.{good-number}
 use Rattle.laws.proofs.Steps.{blocks-length}
 use Rattle.laws.proofs.Walk.{broken-bad, WithinIf, step-within, start-within}
@@ -30,12 +31,12 @@ use Rattle.sets.specs.declared.Set.{Set}
 use Rattle.sets.specs.declared.Sets.{Sets}
 use Rattle.sets.specs.declared.Step.{Step}
 use Rattle.sets.specs.declared.Step.TheVariants.{NoRoom, Pending, Closed}
-use Rattle.sets.specs.Assembling.{set_of, current_of, assembly_of, event_of, text_end, has_room, room_for, step_in, text_after}
+use Rattle.sets.specs.Assembling.{set_of, current_of, assembly_of, event_of, text_end, has_room, room_for, step_in, text_after, Advances}
 use Rattle.sets.proofs.Laws.{step-event}
 use Rattle.sets.proofs.Rooms.{room-left}
 use Rattle.closed.specs.Body.{Body, lay_set}
 use Rattle.checking.specs.declared.blocks.Pass.{Pass}
-use Rattle.checking.specs.Passing.{Passing, outcome_of, passing_outcome, more, counts_after, going_pass, pass_after, stepped, block_taken, pass_all, checked_of}
+use Rattle.checking.specs.Passing.{Passing, passing, begun_pass, outcome_of, passing_outcome, more, counts_after, going_pass, pass_after, stepped, block_taken, pass_all, checked_of}
 
 module _ (w : Pass) (text : List ℕ) (body : Body) where
   pub outcome-good : is_good w.refusal ≡ true → outcome_of w text body ≡ accepted (record { assembly = assembly_of w.sets text; counts = w.counts; gathered = body })
@@ -69,7 +70,7 @@ module _ (f : Format) (place : ℕ) (b : List ℕ) (p : Passing) (ready : CanTak
   Right q = passing_outcome q ≡ step f (set_rule f) (lay_set f) place (passing_outcome p) b
 
   event : some (advance f place b (assembly_of p.pass.sets p.text)) ≡ event_of (step_in f place b p.pass.sets p.text) after
-  event = step-event f place b p.pass.sets p.text ready.1 (refl, refl)
+  event = step-event f place b p.pass.sets p.text ready.1 (record { step = refl; text = refl })
 
   judged :
       {e : Event} → advance f place b (assembly_of p.pass.sets p.text) ≡ e
@@ -95,7 +96,7 @@ module _ (f : Format) (place : ℕ) (b : List ℕ) (p : Passing) (ready : CanTak
   by_step (Err q) e =
       let z = some-injective _ _ e in
       outcome-bad _ after _ (broken-bad f place b _ z) ∙ judged z
-  by_step (Ok NoRoom) e = absurd (none_not_some (sym e))
+  by_step (Ok NoRoom) e = absurd (none-ne-some _ (sym e))
   by_step (Ok (Pending s)) e = outcome-good _ after _ ready.0 ∙ judged (some-injective _ _ e)
   by_step (Ok (Closed set s)) e = on-closed set s (some-injective _ _ e)
 
@@ -104,14 +105,14 @@ module _ (f : Format) (place : ℕ) (b : List ℕ) (p : Passing) (ready : CanTak
   block-step = by_step _ event
 
 -- what comes back after a block, by the step that it made
-module _ (f : Format) (place : ℕ) (b : List ℕ) (p : Passing) {counts : Counts} {text : List ℕ} {s : Result Step Refusal} (k : counts ≡ counts_after b p.pass p.text) (t : (s ≡ step_in f place b p.pass.sets p.text) × (text ≡ text_after b p.pass.sets p.text)) where
+module _ (f : Format) (place : ℕ) (b : List ℕ) (p : Passing) {counts : Counts} {text : List ℕ} {s : Result Step Refusal} (k : counts ≡ counts_after b p.pass p.text) (t : Advances f place b p.pass.sets p.text s text) where
   -- what is promised of the result, with the text buffer and what is laid after it
   abbrev Taken : Result Pass Refusal → Body → Type 0
   Taken r body = record { pass = pass_after p.pass r; text = text; body = body } ≡ block_taken f place b p
 
   by_taken : {e : Result Step Refusal} → s ≡ e → stepped f counts text p e ≡ block_taken f place b p
   unfolding block_taken
-  by_taken e = rw (sym e, k, t.0, t.1)
+  by_taken e = rw (sym e, k, t.step, t.text)
 
   pub taken-broken : {q : Refusal} → s ≡ Err q → Taken (Err q) p.body
   unfolding stepped pass_after
@@ -215,16 +216,11 @@ module _ (n : ℕ) (w : Pass) (text : List ℕ) (body : Body) where
 -- pass one over a file's blocks is the walk over them
 module _ (f : Format) (file : List ℕ) (n : ℕ) (text : List ℕ) (body : Body) {bytes : List ℕ} (m : n < 2 ^ 64) (room : room_for n ≤ length text) (d : bytes ≡ field gsi_size (length file) file) where
   abbrev first : Passing
-  first =
-      record {
-        pass = record { refusal = record { number = 0; place = 0; offset = 0 }; sets = record { least = 0; current = None }; counts = record { subtitles = 0; comments = 0; continuations = 0; users = 0 } };
-        text = text;
-        body = body;
-      }
+  first = passing begun_pass text body
 
   first-begun : passing_outcome first ≡ accepted (begun body)
-  unfolding begun no_blocks no_counts assembly_of current_of
-  first-begun = outcome-good first.pass text body (good-number _ refl)
+  unfolding begun no_blocks no_refusal assembly_of current_of
+  first-begun = outcome-good first.pass text body (good-number no_refusal refl)
 
   all_blocks : bytes ≡ drop gsi_size file
   unfolding field

@@ -4,15 +4,15 @@ use Rattle.std.specs.Prelude.{ℕ, true, false, List, [], ◌∷◌, Result, Ok,
 use Rattle.meaning.specs.declared.Refusal.{Refusal}
 use Rattle.meaning.specs.declared.Counts.{Counts}
 use Rattle.meaning.specs.declared.Format.{Format}
-use Rattle.meaning.specs.Refusals.{is_good}
+use Rattle.meaning.specs.Refusals.{no_refusal, is_good}
 use Rattle.meaning.specs.Blocks.{header_of}
-use Rattle.meaning.specs.Walk.{counted_by, is_open, set_rule, Outcome}
+use Rattle.meaning.specs.Walk.{no_counts, counted_by, is_open, set_rule, Outcome}
 use Rattle.meaning.specs.Walk.Outcome.{refused, accepted}
 use Rattle.output.specs.Output.{past}
 use Rattle.sets.specs.declared.Sets.{Sets}
 use Rattle.sets.specs.declared.Step.{Step}
 use Rattle.sets.specs.declared.Step.TheVariants.{NoRoom, Pending, Closed}
-use Rattle.sets.specs.Assembling.{set_of, assembly_of, step_in, text_after}
+use Rattle.sets.specs.Assembling.{no_sets, set_of, assembly_of, step_in, text_after}
 use Rattle.closed.specs.Body.{Body, lay_set}
 use Rattle.checking.specs.declared.Checked.{Checked}
 use Rattle.checking.specs.declared.blocks.Pass.{Pass}
@@ -22,6 +22,13 @@ pub record Passing : Type 0 where
   pub pass : Pass
   pub text : List ℕ
   pub body : Body
+
+abbrev pub passing : Pass → List ℕ → Body → Passing
+passing w text p = record { pass = w; text = text; body = p }
+
+-- the pass before the first block
+abbrev pub begun_pass : Pass
+begun_pass = record { refusal = no_refusal; sets = no_sets; counts = no_counts }
 
 -- what a pass stands for, with its text buffer and what it laid
 unfoldable pub outcome_of : Pass → List ℕ → Body → Outcome Body

@@ -3,18 +3,19 @@
 ghost use Rattle.std.specs.Prelude.{◌≡◌, List, ℕ};
 ghost use Rattle.meaning.specs.Blocks.{blocks};
 ghost use Rattle.meaning.specs.Walk.{counted_by, finish};
-ghost use Rattle.closed.specs.Body.{body_of, KeepsBuffers};
-ghost use Rattle.checking.specs.Passing.{outcome_of, more, counts_after, block_taken, pass_all, pass_after, checked_of};
+ghost use Rattle.closed.specs.Body.{body_of, LaysAs};
+ghost use Rattle.checking.specs.Passing.{passing, outcome_of, more, counts_after, block_taken, pass_all, pass_after, checked_of};
 
 use crate::Checked;
 use closed::{lay, set_rule};
 use meaning::{BLOCK_SIZE, Counts, Format, Header, Refusal};
-use sets::{Sets, Step};
+use sets::{PlacedBlock, Sets, Step};
 use styles::Marks;
 use text::{BodyWriter, Tally};
 
-// The refusal, with number 0 where there is none, since `store::state_in` promises its three numbers, whatever they are; the sets; and the counts.
-#[derive(Clone, Copy)]
+// The refusal, with number 0 where there is none; the sets; and the counts. The default stands before the first block. A number and no
+// Option: `store::state_in` promises the three numbers of any store, also where the first is 0.
+#[derive(Clone, Copy, Default)]
 pub struct Pass {
     pub refusal: Refusal,
     pub sets: Sets,
@@ -22,18 +23,6 @@ pub struct Pass {
 }
 
 impl Pass {
-    // Before the first block. A constant calls no Default.
-    pub const BEGUN: Pass = Pass {
-        refusal: Refusal::NONE,
-        sets: Sets::NONE,
-        counts: Counts {
-            subtitles: 0,
-            comments: 0,
-            continuations: 0,
-            users: 0,
-        },
-    };
-
     // The pass after a block: a broken rule ends it.
     #[tactic(auto, unfolding(crate::specs::Passing::pass_after))]
     fn after(self, taken: Result<Pass, Refusal>) -> Pass
@@ -63,57 +52,43 @@ impl Pass {
 
 // One block more, where a set is open or not.
 #[tactic(auto, unfolding(output::specs::Output::past))]
-fn counted(c: Counts, in_set: bool, h: Header) -> Counts
+fn counted(mut c: Counts, in_set: bool, h: Header) -> Counts
     ensures { result ≡ counted_by more in_set h c }
 {
     if h.is_user() {
-        Counts {
-            users: c.users.saturating_add(1),
-            ..c
-        }
+        c.users = c.users.saturating_add(1);
     } else if in_set {
-        Counts {
-            continuations: c.continuations.saturating_add(1),
-            ..c
-        }
+        c.continuations = c.continuations.saturating_add(1);
     } else if h.is_comment() {
-        Counts {
-            comments: c.comments.saturating_add(1),
-            ..c
-        }
+        c.comments = c.comments.saturating_add(1);
     } else {
-        Counts {
-            subtitles: c.subtitles.saturating_add(1),
-            ..c
-        }
+        c.subtitles = c.subtitles.saturating_add(1);
     }
+    c
 }
 
-fn counts_after(bytes: &[u8], w: Pass) -> Counts
-    ensures { (text : List ℕ) → result ≡ counts_after bytes.now w text }
+fn counts_after(b: PlacedBlock, w: Pass) -> Counts
+    ensures { (text : List ℕ) → result ≡ counts_after b.entry.bytes.now w text }
 {
-    counted(w.counts, w.sets.is_open(), block::header_of(bytes))
+    counted(w.counts, w.sets.is_open(), b.header())
 }
 
 // A block in pass one, where nothing is refused yet: the pass after it, or the rule that it breaks.
 fn check_block(
-    f: Format,
-    place: u64,
-    bytes: &[u8],
+    b: PlacedBlock,
     text: &mut [u8],
     body: &mut BodyWriter,
     w: Pass,
 ) -> Result<Pass, Refusal>
-    ensures taken { record { pass = pass_after w result; text = text.new; body = body_of body.new } ≡ block_taken f place bytes.now (record { pass = w; text = text.old; body = body_of body.old }) }
-    ensures buffers { KeepsBuffers body.old body.new }
+    ensures { LaysAs (passing (pass_after w result) text.new) body.old (block_taken b.entry.f b.entry.place b.entry.bytes.now (passing w text.old (body_of body.old))) body.new }
 {
-    let counts = counts_after(bytes, w);
-    match sets::advance(f, place, bytes, text, w.sets)? {
+    let counts = counts_after(b, w);
+    match b.advance(text, w.sets)? {
         Step::NoRoom => Ok(w),
         Step::Pending(sets) => Ok(Pass { sets, counts, ..w }),
         Step::Closed(set, sets) => {
-            set_rule(f, text, set)?;
-            lay(f, text, body, set);
+            set_rule(b.f, text, set)?;
+            lay(b.f, text, body, set);
             Ok(Pass { sets, counts, ..w })
         }
     }
@@ -130,17 +105,16 @@ pub fn check_more(
     body: &mut BodyWriter,
     mut w: Pass,
 ) -> Pass
-    ensures passed { record { pass = result; text = text.new; body = body_of body.new } ≡ pass_all f place (record { pass = w; text = text.old; body = body_of body.old }) (blocks n bytes.now) }
-    ensures buffers { KeepsBuffers body.old body.new }
+    ensures { LaysAs (passing result text.new) body.old (pass_all f place (passing w text.old (body_of body.old)) (blocks n bytes.now)) body.new }
 {
-    // By number: past the bytes' end a block is empty, which `chunks` does not give.
+    // By number: `check_more` promises any n, also past the bytes' end, where a block is empty.
     for k in 0..n {
         if w.refusal.number != 0 {
             return w;
         }
         let place = place.saturating_add(k as u64);
-        let block = block::field(bytes, k.saturating_mul(BLOCK_SIZE), BLOCK_SIZE);
-        w = w.after(check_block(f, place, block, text, body, w));
+        let bytes = block::field(bytes, k.saturating_mul(BLOCK_SIZE), BLOCK_SIZE);
+        w = w.after(check_block(PlacedBlock { f, place, bytes }, text, body, w));
     }
     w
 }

@@ -5,7 +5,7 @@
 ghost use Rattle.std.specs.Prelude.{◌≡◌, ◌≤◌, length};
 ghost use Rattle.meaning.specs.Walk.{set_rule, finish, walk};
 ghost use Rattle.sets.specs.Assembling.{room_for};
-ghost use Rattle.closed.specs.Body.{body_of, empty_body, lay_set, KeepsBuffers};
+ghost use Rattle.closed.specs.Body.{body_of, empty_body, lay_set, LaysAs};
 ghost use Rattle.checking.specs.Passing.{checked_of, outcome_of};
 
 use closed::with_text_room;
@@ -29,14 +29,14 @@ pub struct Checked {
 // The first n blocks, with a text buffer that has room for their texts.
 fn check_all(file: &[u8], n: usize, f: Format, text: &mut [u8], body: &mut BodyWriter) -> Pass
     requires { room_for n ≤ length text.old }
-    ensures passed { outcome_of result text.new (body_of body.new) ≡ walk f (set_rule f) (lay_set f) (body_of body.old) file.now n }
-    ensures buffers { KeepsBuffers body.old body.new }
+    ensures { LaysAs (outcome_of result text.new) body.old (walk f (set_rule f) (lay_set f) (body_of body.old) file.now n) body.new }
 {
     let blocks = block::field(file, GSI_SIZE, file.len());
-    check_more(blocks, n, 0, f, text, body, Pass::BEGUN)
+    check_more(blocks, n, 0, f, text, body, Pass::default())
 }
 
-// The first n blocks of any file.
+// The first n blocks of any file. n and f go along though the file tells them: the definition `walk` takes any, and so the promise is for
+// any.
 pub fn check_blocks(file: &[u8], n: usize, f: Format) -> Result<Checked, Refusal>
     ensures { result ≡ checked_of (finish n (walk f (set_rule f) (lay_set f) empty_body file.now n)) }
 {

@@ -13,7 +13,7 @@ use Rattle.output.proofs.Laws.{◌⨟◌, wrote-length}
 use Rattle.text.specs.declared.BodyWriter.{BodyWriter}
 use Rattle.text.proofs.Laws.{marked_append, past-append}
 use Rattle.document.specs.Parts.{ParagraphLaid}
-use Rattle.closed.specs.Body.{Body, body_of, laid, KeepsBuffers}
+use Rattle.closed.specs.Body.{Body, body_of, laid, KeepsBuffers, LaysAs, Lays}
 
 bodies :
     {out out' : List ℕ} {marks marks' : List Bool} {at at' spans spans' : ℕ} → out ≡ out' → marks ≡ marks' → at ≡ at' → spans ≡ spans'
@@ -36,10 +36,20 @@ laid-append ps qs p h =
     (sym (past-append p.tally.spans (document_looks ps) (document_looks qs))))
 
 -- one paragraph laid
-pub is-laid : {b b' : BodyWriter} (p : Paragraph) → ParagraphLaid b p b' → body_of b' ≡ laid (p ∷ []) (body_of b)
+is-laid : {b b' : BodyWriter} (p : Paragraph) → ParagraphLaid b p b' → body_of b' ≡ laid (p ∷ []) (body_of b)
 unfolding laid flat_map document_looks
 is-laid p l = rw (append-nil (write_paragraph p), append-nil (paragraph_looks p)) (bodies l.wrote.wrote.held l.marks l.wrote.wrote.next l.spans)
 
--- buffers that are kept by two steps
+-- buffers that nothing is done to, and that are kept by two steps
+pub keeps-none : {a : BodyWriter} → KeepsBuffers a a
+keeps-none = record { writer = refl; out = refl; marks = refl }
+
 pub keeps-then : {a b c : BodyWriter} → KeepsBuffers a b → KeepsBuffers b c → KeepsBuffers a c
 keeps-then k l = record { writer = l.writer ∙ k.writer; out = l.out ∙ k.out; marks = l.marks ∙ k.marks }
+
+-- a body writer that nothing is done to, and one that laid a paragraph
+pub lays-nothing : {A : Type 0} {stands : Body → A} {b : BodyWriter} {a : A} → stands (body_of b) ≡ a → LaysAs stands b a b
+lays-nothing e = record { laid = e; buffers = keeps-none }
+
+pub lays-paragraph : {b b' : BodyWriter} (p : Paragraph) {q : Body} → ParagraphLaid b p b' → laid (p ∷ []) (body_of b) ≡ q → Lays b q b'
+lays-paragraph p l e = record { laid = is-laid p l ∙ e; buffers = record { writer = l.writer; out = l.wrote.same; marks = l.same } }

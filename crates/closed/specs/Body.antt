@@ -29,6 +29,15 @@ pub record KeepsBuffers (b b' : BodyWriter) : Type 0 where
   pub out : b'.writer.now.out.ghost_name ≡ b.writer.now.out.ghost_name
   pub marks : b'.marks.ghost_name ≡ b.marks.ghost_name
 
+-- a body writer over the same buffers, and what it has laid, as `stands` tells of it, is `a`
+pub record LaysAs {A : Type 0} (stands : Body → A) (before : BodyWriter) (a : A) (after : BodyWriter) : Type 0 where
+  pub laid : stands (body_of after) ≡ a
+  pub buffers : KeepsBuffers before after
+
+-- what it has laid, as it is
+abbrev pub Lays : BodyWriter → Body → BodyWriter → Type 0
+Lays before p after = LaysAs (λ (q : Body). q) before p after
+
 -- nothing laid yet, with a buffer of no bytes: what is laid is only measured
 abbrev pub empty_body : Body
 empty_body = record { out = []; marks = replicate look_count false; tally = record { at = 0; spans = 0 } }

@@ -15,18 +15,14 @@ use Rattle.meaning.specs.Refusals.{no_refusal, is_good, verdict}
 use Rattle.meaning.specs.Walk.{Subtitle, Progress, Outcome, subtitles_of}
 use Rattle.meaning.specs.Walk.Outcome.{refused, accepted}
 use Rattle.meaning.specs.Document.{render}
-use Rattle.meaning.specs.Conversion.{document_of, refusal_to, accepted_answer, is_too_long, fits_in, answer_by, answer_to}
-use Rattle.meaning.proofs.Logic.{by_test, false_not_true}
+use Rattle.meaning.specs.Conversion.{document_of, refusal_to, accepted_answer, fits_in, answer_by, answer_to}
+use Rattle.std.proofs.lemmas.Bool.{false≢true}
+use Rattle.meaning.proofs.Logic.{by_test}
 use Rattle.styles.specs.declared.Marks.{Marks}
 use Rattle.checking.specs.declared.Checked.{Checked}
 use Rattle.convert.specs.declared.Accepted.{Accepted}
 use Rattle.convert.specs.declared.Refused.{Refused}
-use Rattle.convert.specs.Telling.{marks_of, answer_of, examined_by, within_room, examined_to, answered}
-
--- what was examined, by what pass one told
-abbrev pub examined_with : Format → ℕ → Result Checked Refusal → Result Accepted Refused
-examined_with f room (Ok c) = within_room f room c
-examined_with f room (Err r) = Err (record { refusal = r; needed = 0 })
+use Rattle.convert.specs.Telling.{marks_of, answer_of, examined_by, within_room, examined_with, examined_to, answered}
 
 -- the answer to a file that was examined, by rule 16
 pub answered_by : (room n spans : ℕ) (counts : Counts) (marks : Marks) → answered (examined_by room n spans counts marks) ≡ answer_by room counts n spans
@@ -35,9 +31,10 @@ answered_by room n spans counts marks =
     by_test (fits_in room n) (λ t. rw (t, examined_by, answer_by)) (λ t. rw (t, examined_by, answer_by))
 
 -- the answer by what pass one told of a good file
-pub answered_within : (f : Format) (room : ℕ) (c : Checked) → answered (within_room f room c) ≡ answer_of f room (Ok c)
-unfolding within_room answer_of
-answered_within f room c = answered_by room _ c.tally.spans c.counts c.marks
+pub answered_with : (f : Format) (room : ℕ) (c : Result Checked Refusal) → answered (examined_with f room c) ≡ answer_of f room c
+unfolding within_room answer_of answered
+answered_with f room (Ok c) = answered_by room _ c.tally.spans c.counts c.marks
+answered_with f room (Err r) = refl
 
 -- an accepted file has answer 0 and the marks of its looks, and a refused one a refusal
 abbrev pub IsRight : Format → Outcome (List Subtitle) → Result Accepted Refused → Type 0
@@ -75,7 +72,7 @@ module _ (f : Format) (room : ℕ) where
 
   pub right_to : (o : Outcome (List Subtitle)) → ((r : Refusal) → o ≡ refused r → is_good r ≡ false) → IsRight f o (examined_to f room o)
   unfolding examined_to examined_by accepted_answer subtitles_of is_good
-  right_to (refused r) bad = λ z. false_not_true (sym (bad r refl) ∙ eq-eqb r.number 0 z)
+  right_to (refused r) bad = λ z. false≢true (sym (bad r refl) ∙ eq-eqb r.number 0 z)
   right_to (accepted p) bad =
       by_test (fits_in room (length (render (document_of f p.gathered))))
       (λ t. rw (t, examined_by) (refl, λ q e. ap (λ (o : Outcome (List Subtitle)). marks_of f (subtitles_of o)) e))

@@ -1,31 +1,29 @@
 -- The two passes together: what was measured is the document's, and what was written is the document.
 -- Assumes nothing.
-use Prim.Native.Nat.{ℕ, ◌+◌, ◌≤◌, ◌<◌, ◌^◌}
+use Prim.Native.Nat.{ℕ, ◌+◌, ◌<◌, ◌^◌}
 use native.Mathlib.Omega.{arith}
 use mathlib.Core.Path.{◌≡◌, refl, sym, ap, subst, ◌∙◌}
 use mathlib.Core.Bool.{Bool, true, false}
 use mathlib.Core.List.{List, [], ◌++◌, map, map-append, append_assoc, append-nil, flat_map}
 use lib.ListN.{length, length-append}
-use borrow.Author.Tests.{eq-eqb}
 use Rattle.std.specs.Prelude.{Result, Ok, Err, IsErrAnd}
 use Rattle.meaning.specs.declared.Refusal.{Refusal}
 use Rattle.meaning.specs.declared.Answer.{Answer}
-use Rattle.meaning.specs.declared.Counts.{Counts}
 use Rattle.meaning.specs.declared.Header.{Header}
 use Rattle.meaning.specs.declared.Format.{Format}
-use Rattle.meaning.specs.Refusals.{no_refusal, is_good, verdict}
+use Rattle.meaning.specs.Refusals.{is_good, verdict}
 use Rattle.meaning.specs.Lists.{joined}
 use Rattle.meaning.specs.Gsi.{format_of, block_count, file_rule}
 use Rattle.meaning.specs.Codes.{tokens}
 use Rattle.meaning.specs.TextRules.{text_rule}
 use Rattle.meaning.specs.Blocks.{is_comment}
 use Rattle.meaning.specs.Sets.{BlockSet}
-use Rattle.meaning.specs.Walk.{Subtitle, Progress, Outcome, finish, walk, set_rule, subtitle_of, subtitles_from, with_subtitles, subtitles_of, outcome}
+use Rattle.meaning.specs.Walk.{Subtitle, Progress, Outcome, finish, walk, set_rule, subtitle_of, subtitles_from, with_subtitles, outcome}
 use Rattle.meaning.specs.Walk.Outcome.{refused, accepted}
 use Rattle.meaning.specs.Document.{write_paragraph, document_looks, render, document_spans, after_paragraphs}
-use Rattle.meaning.specs.Conversion.{paragraph_of, document_of, refusal_to, refusal, refused_answer, accepted_answer, fits_in, answer_by, answer_to, answer, output}
+use Rattle.meaning.specs.Conversion.{paragraph_of, document_of, refusal, refused_answer, answer_by, answer_to, answer, output}
 use Rattle.laws.specs.Demands.{FewestSpans}
-use Rattle.meaning.proofs.Logic.{by_test, false_not_true}
+use Rattle.meaning.proofs.Logic.{by_test}
 use Rattle.laws.proofs.Gathering.{mapped, finish-mapped, walk-mapped, finish-accepted}
 use Rattle.laws.proofs.Accepted.{taken, rule-kept}
 use Rattle.laws.proofs.Refused.{refusal-bad, refused-untouched}
@@ -45,11 +43,11 @@ use Rattle.checking.specs.Passing.{checked_of}
 use Rattle.writing.specs.Laying.{Laying, lay_blocks}
 use Rattle.convert.specs.declared.Accepted.{Accepted}
 use Rattle.convert.specs.declared.Refused.{Refused}
-use Rattle.convert.specs.Telling.{marks_of, measured, answer_of, examined_by, within_room, examined_to, examined, answered, WritesDocument}
+use Rattle.convert.specs.Telling.{marks_of, measured, answer_of, examined_by, within_room, examined_to, examined, answered, WritesDocument, examined_with}
 use Rattle.closed.proofs.Laying.{laid-append}
 use Rattle.writing.proofs.Laws.{walk_lays}
 use Rattle.convert.proofs.Marking.{looks-right}
-use Rattle.convert.proofs.Answering.{examined_with, IsRight, ruled, verdict_good, verdict_bad, answered_to, ruled_to, right_to}
+use Rattle.convert.proofs.Answering.{IsRight, ruled, verdict_good, verdict_bad, answered_to, ruled_to, right_to}
 
 paragraph_whole :
     (f : Format) (place : ℕ) (h : Header) (text : List ℕ) → is_good (text_rule f place h.vp text) ≡ true
@@ -209,14 +207,9 @@ module _ (mode : ℕ) (file : List ℕ) (room : ℕ) where
       → x ≡ examined mode file room
   rule_examined {x = x} e h = let v = verdict_bad _ e in err_is x _ h ∙ rw (sym v.1) (examined_broken mode file v.0 room)
 
-  module _ (e : verdict (file_rule mode file) ≡ Ok tt) {f : Format} {n : ℕ} {y z : Result Checked Refusal} (g : f ≡ format_of mode file) (b : n ≡ block_count file) (s : y ≡ checked_of (finish n (walk f (set_rule f) (lay_set f) empty_body file n))) (d : y ≡ z) where
-    pub pass_examined : examined_with f room z ≡ examined mode file room
-    pass_examined = ap (examined_with f room) (sym d ∙ s) ∙ rw (g, b) (examined_told mode file (verdict_good _ e) room)
-
-  pub pass_refused :
-      {r : Refusal} {x : Result Accepted Refused} → Err (record { refusal = r; needed = 0 }) ≡ examined mode file room
-      → IsErrAnd x (λ e. e ≡ record { refusal = r; needed = 0 }) → x ≡ examined mode file room
-  pass_refused {x = x} e h = err_is x _ h ∙ e
+  module _ (e : verdict (file_rule mode file) ≡ Ok tt) {f : Format} {n : ℕ} {y : Result Checked Refusal} (g : f ≡ format_of mode file) (b : n ≡ block_count file) (s : y ≡ checked_of (finish n (walk f (set_rule f) (lay_set f) empty_body file n))) where
+    pub pass_examined : examined_with f room y ≡ examined mode file room
+    pass_examined = ap (examined_with f room) s ∙ rw (g, b) (examined_told mode file (verdict_good _ e) room)
 
 -- pass two
 module _ (mode : ℕ) (file : List ℕ) where

@@ -12,7 +12,8 @@ use borrow.Author.Tests.{eqb-true, eqb-false}
 use Rattle.meaning.specs.Lists.{any}
 use Rattle.meaning.specs.Looks.{look_count}
 use Rattle.meaning.specs.Document.{Paragraph, document_looks, is_used, looks_used}
-use Rattle.meaning.proofs.Logic.{by_test, or_true_right}
+use Rattle.std.proofs.lemmas.Bool.{or_right}
+use Rattle.meaning.proofs.Logic.{by_test}
 use Rattle.meaning.proofs.ListLaws.{any-cons}
 use Rattle.styles.specs.Styles.{looks_marked}
 use Rattle.styles.proofs.Laws.{marked_used}
@@ -27,7 +28,7 @@ set_mark on j k h =
     by_test (eqb k j)
     (λ e.
     let q = sym (eqb-true k j e) in
-    rw (e, q) (get_or-set_same on k true false h ∙ sym (or_true_right (get_or on k false) true refl)))
+    rw (e, q) (get_or-set_same on k true false h ∙ sym (or_right (get_or on k false) true refl)))
     (λ e. rw e (get_or-set_other on j k true false (eqb-false k j e) ∙ sym (or-false (get_or on k false))))
 
 -- a mark is set exactly if a span has its look

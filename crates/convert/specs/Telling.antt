@@ -44,6 +44,11 @@ examined_by room n spans counts marks =
 unfoldable pub within_room : Format → ℕ → Checked → Result Accepted Refused
 within_room f room c = examined_by room (measured f.rate c.marks.on c.tally.at) c.tally.spans c.counts c.marks
 
+-- .. or the rule that pass one refused it by
+abbrev pub examined_with : Format → ℕ → Result Checked Refusal → Result Accepted Refused
+examined_with f room (Ok c) = within_room f room c
+examined_with f room (Err r) = Err (record { refusal = r; needed = 0 })
+
 -- .. as it is
 unfoldable pub examined_to : Format → ℕ → Outcome (List Subtitle) → Result Accepted Refused
 examined_to f room (refused r) = Err (record { refusal = r; needed = 0 })

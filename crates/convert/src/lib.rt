@@ -6,7 +6,7 @@ ghost use Rattle.std.specs.Prelude.{◌≡◌, List, length};
 ghost use Rattle.meaning.specs.Refusals.{verdict};
 ghost use Rattle.meaning.specs.Conversion.{refusal, refused_answer, accepted_answer, answer, output};
 ghost use Rattle.laws.specs.Demands.{FewestSpans};
-ghost use Rattle.convert.specs.Telling.{measured, answer_of, within_room, examined, answered, WritesDocument};
+ghost use Rattle.convert.specs.Telling.{measured, answer_of, within_room, examined_with, examined, answered, WritesDocument};
 
 use checking::Checked;
 use meaning::{Answer, Counts, Format, Look, Refusal};
@@ -16,16 +16,16 @@ use text::BodyWriter;
 
 // A file that is accepted: its answer, and the looks that its document uses.
 #[derive(Clone, Copy)]
-pub struct Accepted {
-    pub answer: Answer,
-    pub marks: Marks,
+struct Accepted {
+    answer: Answer,
+    marks: Marks,
 }
 
 // A file that is refused, and the length that its answer tells.
 #[derive(Clone, Copy)]
-pub struct Refused {
-    pub refusal: Refusal,
-    pub needed: u64,
+struct Refused {
+    refusal: Refusal,
+    needed: u64,
 }
 
 // The answer to a file that breaks one of the rules 1 to 15 tells no length.
@@ -37,6 +37,7 @@ impl From<Refusal> for Refused {
     }
 }
 
+// Public beside the conversion below: `streamed` has a refusal, and no `Refused`.
 #[tactic(auto, unfolding(meaning::specs::Conversion::refused_answer))]
 pub fn answer_refused(r: Refusal, needed: u64) -> Answer
     ensures { result ≡ refused_answer r needed }
@@ -46,6 +47,14 @@ pub fn answer_refused(r: Refusal, needed: u64) -> Answer
         place: r.place,
         length: needed,
         ..Answer::default()
+    }
+}
+
+impl From<Refused> for Answer {
+    ghost from_gives = { λ r a. a ≡ refused_answer r.refusal r.needed };
+
+    fn from(r: Refused) -> Answer {
+        answer_refused(r.refusal, r.needed)
     }
 }
 
@@ -107,34 +116,39 @@ fn answered(examined: Result<Accepted, Refused>) -> Answer
 {
     match examined {
         Ok(a) => a.answer,
-        Err(r) => answer_refused(r.refusal, r.needed),
+        Err(r) => Answer::from(r),
     }
+}
+
+// Rule 16, by what pass one told.
+fn examined_with(f: Format, c: Result<Checked, Refusal>, room: usize) -> Result<Accepted, Refused>
+    ensures { result ≡ examined_with f room c }
+{
+    within_room(f, c?, room)
 }
 
 // The answer by what pass one told, for a buffer of some length.
-#[tactic(auto, unfolding(crate::specs::Telling::answer_of))]
 pub fn answer_of(f: Format, c: Result<Checked, Refusal>, room: usize) -> Answer
     ensures { result ≡ answer_of f room c }
 {
-    match c {
-        Ok(c) => answered(within_room(f, c, room)),
-        Err(r) => answer_refused(r, 0),
-    }
+    answered(examined_with(f, c, room))
 }
 
+// File, mode and room go side by side, as the definition `answer`, the promise `Told` and the exported functions take them.
 fn examine(file: &[u8], mode: u64, room: usize) -> Result<Accepted, Refused>
     ensures { result ≡ examined mode file.now room }
 {
     gsi::file_rule(file, mode)?;
     let f = gsi::format(file, mode);
-    let c = checking::check_blocks(file, gsi::block_count(file), f)?;
-    within_room(f, c, room)
+    let c = checking::check_blocks(file, gsi::block_count(file), f);
+    examined_with(f, c, room)
 }
 
 // The rule that any file breaks, for any break mode and a buffer of any length; 16 has offset 0.
 pub fn refusal(file: &[u8], mode: u64, room: usize) -> Result<(), Refusal>
     ensures { result ≡ verdict (refusal mode file.now room) }
 {
+    // A `match`, for both arms change.
     match examine(file, mode, room) {
         Ok(_) => Ok(()),
         Err(r) => Err(r.refusal),
@@ -177,6 +191,6 @@ pub fn convert(file: &[u8], mode: u64, out: &mut [u8]) -> Answer
             write(file, mode, out, &a.marks);
             a.answer
         }
-        Err(r) => answer_refused(r.refusal, r.needed),
+        Err(r) => Answer::from(r),
     }
 }

@@ -9,6 +9,7 @@ ghost use Rattle.document.specs.Parts.{head_of, paragraph_for, ParagraphLaid};
 
 use meaning::{Format, Header, Time};
 use output::Writer;
+use rows::SetText;
 use styles::Marks;
 use text::BodyWriter;
 
@@ -35,6 +36,7 @@ pub fn put_tail(w: &mut Writer)
     w.put(b"</tt:div></tt:body></tt:tt>\n");
 }
 
+// By hand and by no `Display`, as the digits are (`numbers`).
 fn put_time(w: &mut Writer, t: Time)
     ensures { Put w.old (write_time t) w.new }
 {
@@ -47,9 +49,11 @@ fn put_time(w: &mut Writer, t: Time)
     numbers::put_digits2(w, t.frames);
 }
 
+#[tactic(auto, using(crate::proofs::Laws::align_left, crate::proofs::Laws::align_right), unfolding(meaning::specs::Document::alignment_name, meaning::specs::Conversion::alignment_of, meaning::specs::Lists::bytes))]
 fn put_alignment(w: &mut Writer, jc: u8)
     ensures { Put w.old (alignment_name (alignment_of jc)) w.new }
 {
+    // By number: an enum of the three would be matched here a second time.
     match jc {
         0 | 1 => w.put(b"alignLeft"),
         2 => w.put(b"alignCentre"),
@@ -71,6 +75,11 @@ pub fn put_paragraph(body: &mut BodyWriter, h: Header, text: &[u8], f: Format)
     w.put(b"\" end=\"");
     put_time(w, h.tco);
     w.put(b"\">");
-    text::put_content(body, text, f, h.vp);
+    let text = SetText {
+        bytes: text,
+        f,
+        vp: h.vp,
+    };
+    text::put_content(body, text);
     body.writer.put(b"</tt:p>\n");
 }

@@ -1,7 +1,7 @@
 -- What `explain` puts together is the reason, of which all is told.
 -- Assumes nothing.
 use Prim.Native.Nat.{ℕ, ◌+◌, ◌≤◌, ◌<◌}
-use mathlib.Core.Path.{◌≡◌, refl, sym, ap, subst, ◌∙◌}
+use mathlib.Core.Path.{◌≡◌, refl, sym, subst, ◌∙◌}
 use mathlib.Core.Bool.{true, false}
 use mathlib.Core.List.{List}
 use lib.ListN.{length}
@@ -17,8 +17,9 @@ use Rattle.meaning.specs.Gsi.{format_of}
 use Rattle.meaning.specs.Walk.{Subtitle, Outcome, outcome}
 use Rattle.meaning.specs.Walk.Outcome.{refused, accepted}
 use Rattle.meaning.specs.Document.{render}
-use Rattle.meaning.specs.Conversion.{document_of, fits_in, is_too_long, refusal_to, refusal}
-use Rattle.meaning.proofs.Logic.{by_test, false_not_true}
+use Rattle.meaning.specs.Conversion.{document_of, fits_in, refusal_to, refusal}
+use Rattle.std.proofs.lemmas.Bool.{false≢true}
+use Rattle.meaning.proofs.Logic.{by_test}
 use Rattle.laws.proofs.Refused.{refusal-bad}
 use Rattle.meaning.specs.Reasons.{offset_in, byte_at, reason_of, reason}
 use Rattle.reasons.specs.Explained.{Told}
@@ -29,9 +30,9 @@ none_to :
     (f : Format) (room : ℕ) (o : Outcome (List Subtitle)) → ((r : Refusal) → o ≡ refused r → is_good r ≡ false) → is_good (refusal_to f room o) ≡ true
     → no_refusal ≡ refusal_to f room o
 unfolding refusal_to is_good
-none_to f room (refused r) bad g = absurd (false_not_true (sym (bad r refl) ∙ g))
+none_to f room (refused r) bad g = absurd (false≢true (sym (bad r refl) ∙ g))
 none_to f room (accepted p) bad g =
-    by_test (fits_in room (length (render (document_of f p.gathered)))) (λ t. rw t) (λ t. absurd (false_not_true (rw t at g)))
+    by_test (fits_in room (length (render (document_of f p.gathered)))) (λ t. rw t) (λ t. absurd (false≢true (rw t at g)))
 
 -- the refusal of a file, by its verdict
 refusal_named : (mode : ℕ) (file : List ℕ) (room : ℕ) → unwrap_or (result_err (verdict (refusal mode file room))) no_refusal ≡ refusal mode file room

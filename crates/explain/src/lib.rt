@@ -46,7 +46,7 @@ fn text_offset(file: &[u8], place: usize, i: usize) -> u64
     file.len() as u64
 }
 
-// Where in the file a refusal of the file stands: by its number, as `Reasons.offset_in`, which is the one that callers in C get.
+// Where in the file a refusal of the file stands: by the rule's number, as `Reasons.offset_in` has it and callers in C get it.
 #[tactic(auto, unfolding(meaning::specs::Reasons::offset_in))]
 fn offset_in(file: &[u8], r: Refusal) -> u64
     requires { InReach r }

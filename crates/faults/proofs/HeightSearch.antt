@@ -13,8 +13,8 @@ use Rattle.meaning.specs.Rows.{first_row, is_double, is_paired, breaks_paired}
 use Rattle.meaning.specs.TextRules.{before_fault, end_first, odd_ends, misplaced_height, breaks_heights, bytes_before, height_fault}
 use Rattle.meaning.proofs.Logic.{by_test}
 use Rattle.meaning.proofs.ListLaws.{any-cons}
+use Rattle.meaning.proofs.RowClauses.{odd_end as odd-end, odd_more as odd-none}
 use Rattle.charset.specs.declared.Reading.{Reading}
-use Rattle.charset.specs.Reading.{readings_from}
 use Rattle.charset.proofs.Laws.{ReadOn, tokens-end}
 use Rattle.rows.proofs.Laws.{first-end, first_more}
 use Rattle.faults.specs.declared.Past.{Past}
@@ -35,16 +35,10 @@ pub record HeightsLeft (double paired : Bool) (s : List ℕ) (p : Past) (i : ℕ
   pub known : p ≡ past_of past
   pub reached : Reached (breaks_heights double paired) s past i
 
--- the same, with the readings that are left
-pub record HeightsRest (double paired : Bool) (s : List ℕ) (p : Past) (left : List (ℕ × Reading)) : Type 0 where
-  pub at : ℕ
-  pub readings : left ≡ readings_from s at
-  pub within : at ≤ length s
-  pub heights : HeightsLeft double paired s p at
-
-pub heights-start : (double paired : Bool) (s : List ℕ) → HeightsLeft double paired s (record { later = false; character = false; ended = false }) 0
+pub heights-start :
+    (double paired : Bool) (s : List ℕ) {p : Past} → p ≡ record { later = false; character = false; ended = false } → HeightsLeft double paired s p 0
 unfolding past_of any end_first first_row take_while
-heights-start double paired s = record { past = []; known = refl; reached = reached-start }
+heights-start double paired s e = record { past = []; known = e; reached = reached-start }
 
 module _ {double paired : Bool} {s : List ℕ} {p : Past} {i : ℕ} (l : HeightsLeft double paired s p i) where
   module _ {r : Reading} {height run : Bool} (o : ReadOn s i r) (h : height ≡ (is_double_height r.token && (p.character || (not double && p.later))))
@@ -64,7 +58,7 @@ module _ {double paired : Bool} {s : List ℕ} {p : Past} {i : ℕ} (l : Heights
           reached = reached-more l.reached o (sym tested ∙ e);
         }
 
-  pub heights-end : length s ≤ i → i ≡ bytes_before (before_fault (breaks_heights double paired) [] (tokens s)) s
+  pub heights-end : length s ≤ i → length s ≡ bytes_before (before_fault (breaks_heights double paired) [] (tokens s)) s
   heights-end h = reached-end l.reached h
 
 -- the fault, with the height and the pairing that were asked
@@ -77,22 +71,6 @@ height_fault_lem s mode d p e = e ∙ rw (p, d)
 -- the row ends from `start` on are those counted, an odd number of them or not, and those from position i on
 pub record OddLeft (s : List ℕ) (start : ℕ) (odd : Bool) (i : ℕ) : Type 0 where
   pub ends : cond odd (not (odd_ends (tokens (drop i s)))) (odd_ends (tokens (drop i s))) ≡ odd_ends (tokens (drop start s))
-
-pub record OddRest (s : List ℕ) (start : ℕ) (odd : Bool) (left : List (ℕ × Reading)) : Type 0 where
-  pub at : ℕ
-  pub readings : left ≡ readings_from s at
-  pub ends : OddLeft s start odd at
-
-pub odd_start : (s : List ℕ) (start : ℕ) → OddLeft s start false start
-odd_start s start = record { ends = refl }
-
-odd_end : (t : Token) (ts : List Token) → is_row_end t ≡ true → odd_ends (t ∷ ts) ≡ not (odd_ends ts)
-unfolding odd_ends
-odd_end t ts e = rw (e, odd_ends)
-
-odd_none : (t : Token) (ts : List Token) → is_row_end t ≡ false → odd_ends (t ∷ ts) ≡ false
-unfolding odd_ends
-odd_none t ts e = rw (e, odd_ends)
 
 one_more : (odd rest : Bool) → cond (not odd) (not rest) rest ≡ cond odd (not (not rest)) (not rest)
 one_more true true = refl
@@ -111,11 +89,11 @@ module _ {s : List ℕ} {start i : ℕ} {odd : Bool} (l : OddLeft s start odd i)
     pub odd_more : not end ≡ false → OddLeft s start (not odd) r.next
     odd_more e =
         let ts = tokens (drop r.next s) in
-        let here = ap odd_ends o.first ∙ odd_end r.token ts (sym q ∙ not-false end e) in
+        let here = ap odd_ends o.first ∙ odd-end r.token ts (sym q ∙ not-false end e) in
         record { ends = one_more odd (odd_ends ts) ∙ rw here at l.ends }
 
     pub odd_found : not end ≡ true → odd ≡ odd_ends (tokens (drop start s))
-    odd_found e = odd_stop (ap odd_ends o.first ∙ odd_none r.token (tokens (drop r.next s)) (sym q ∙ not-true end e))
+    odd_found e = odd_stop (ap odd_ends o.first ∙ odd-none r.token (tokens (drop r.next s)) (sym q ∙ not-true end e))
 
   pub odd_over : length s ≤ i → odd ≡ odd_ends (tokens (drop start s))
   unfolding odd_ends

@@ -87,3 +87,24 @@ module _ (f : Format) (vp : ℕ) (s : List ℕ) {n : ℕ} (q : n ≡ (text_rule 
   broken_told place {o} ne g =
       let r : verdict (record { number = n; place = place; offset = o }) ≡ Err (record { number = n; place = place; offset = o }) = rw (ne_eqb n 0 ne, verdict) in
       sym r ∙ ap verdict (rw (ne_eqb n 0 ne) at (rule_told place g))
+
+-- the offset of the rule that is broken
+module _ (f : Format) (vp : ℕ) (s : List ℕ) {rule : TextRule} (q : number_of (Err rule) ≡ (text_rule f 0 vp s).number) {o : ℕ} where
+  pub codes_fault : rule ≡ Codes → o ≡ code_fault f.teletext s → o ≡ (text_rule f 0 vp s).offset
+  unfolding number_of
+  codes_fault e g = g ∙ sym (offset-told f vp s (rw e at q))
+
+  pub heights_fault : rule ≡ Heights → o ≡ height_fault f.mode s → o ≡ (text_rule f 0 vp s).offset
+  unfolding number_of
+  heights_fault e g = g ∙ sym (offset-told f vp s (rw e at q))
+
+  pub fit_fault : rule ≡ Fit → o ≡ row_fault f vp s → o ≡ (text_rule f 0 vp s).offset
+  unfolding number_of
+  fit_fault e g = g ∙ sym (offset-told f vp s (rw e at q))
+
+-- rule 14 holds where rule 15 is the first that is broken
+pub fit_heights :
+    (f : Format) (vp : ℕ) (s : List ℕ) {rule : TextRule} → number_of (Err rule) ≡ (text_rule f 0 vp s).number → rule ≡ Fit
+    → heights_right f.mode (tokens s) ≡ true
+unfolding number_of
+fit_heights f vp s q e = heights-told f vp s (rw e at q) refl

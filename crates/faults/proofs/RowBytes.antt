@@ -11,7 +11,8 @@ use Rattle.meaning.specs.declared.Token.{Token}
 use Rattle.meaning.specs.Codes.{tokens, is_row_end}
 use Rattle.meaning.specs.Rows.{first_row}
 use Rattle.meaning.specs.TextRules.{end_first, first_size, bytes_before}
-use Rattle.meaning.proofs.Logic.{by_test, by_le, false_not_true}
+use Rattle.std.proofs.lemmas.Bool.{false≢true}
+use Rattle.meaning.proofs.Logic.{by_test, by_le}
 use Rattle.meaning.proofs.TextPlaces.{size-end}
 use Rattle.charset.specs.declared.Reading.{Reading}
 use Rattle.charset.specs.Reading.{token_at, next_at, after_row_at, after_end_at}
@@ -46,8 +47,8 @@ bytes-over s i h =
     (record {
       row = 0;
       size = sym (ap length (ap first_row t ∙ first-none));
-      end = λ e. absurd (false_not_true (sym f ∙ e));
-      on = λ e. absurd (false_not_true (sym f ∙ e));
+      end = λ e. absurd (false≢true (sym f ∙ e));
+      on = λ e. absurd (false≢true (sym f ∙ e));
       last = λ e. omega (arith, bytes-none (drop i s));
     })
 
@@ -66,7 +67,7 @@ module _ {s : List ℕ} {i : ℕ} {r : Reading} (o : ReadOn s i r) where
         size = sym (ap length (ap first_row o.first ∙ first-end r.token ts e));
         end = λ z. omega (arith, o.size, size-end (drop i s) one, bytes-none (drop i s));
         on = λ z. omega (arith, bytes_on 0 o, bytes-none (drop r.next s));
-        last = λ z. absurd (false_not_true (sym z ∙ ap is_ended o.first ∙ ended-end r.token ts e));
+        last = λ z. absurd (false≢true (sym z ∙ ap is_ended o.first ∙ ended-end r.token ts e));
       })
 
   bytes-more : is_row_end r.token ≡ false → RowBytes s r.next (after_row_at s r.next) → RowBytes s i (after_row_at s i)
@@ -99,5 +100,5 @@ unfolding after_end_at end_first
 end-bytes s i e =
     let one = size-end (drop i s) e in
     by_le (length s) i
-    (λ h. absurd (false_not_true (sym (ap end_first (tokens-end s i h)) ∙ e)))
+    (λ h. absurd (false≢true (sym (ap end_first (tokens-end s i h)) ∙ e)))
     (λ h. let o = read_at s i h in rw (end-first s i ∙ e) (omega (arith, o.size), o.size))

@@ -10,7 +10,8 @@ use borrow.Author.Tests.{lt-ltb, ltb-true, not-true, not-false}
 use Rattle.meaning.specs.Codes.{tokens, is_row_end}
 use Rattle.meaning.specs.Rows.{first_row}
 use Rattle.meaning.specs.TextRules.{break_size}
-use Rattle.meaning.proofs.Logic.{by_le, and_parts}
+use Rattle.std.proofs.lemmas.Bool.{and_parts}
+use Rattle.meaning.proofs.Logic.{by_le}
 use Rattle.charset.specs.declared.Reading.{Reading}
 use Rattle.charset.specs.Reading.{reading_at}
 use Rattle.charset.proofs.Laws.{read-on, tokens-end}

@@ -11,7 +11,7 @@ use Rattle.meaning.specs.declared.Token.{Token}
 use Rattle.meaning.specs.Codes.{tokens}
 use Rattle.meaning.specs.Rows.{even_from}
 use Rattle.meaning.specs.TextRules.{end_first, break_size, tokens_in, first_size, bytes_before}
-use Rattle.meaning.proofs.Logic.{and_parts, false_not_true}
+use Rattle.std.proofs.lemmas.Bool.{and_parts, false≢true}
 use Rattle.meaning.proofs.TextPlaces.{bytes_next}
 use Rattle.rows.specs.Scanned.{is_ended, next_row_at}
 use Rattle.rows.proofs.FirstRow.{after_row, next_rows}
@@ -52,4 +52,4 @@ pub even-next :
     → (paired ≡ true → end_first (after_row us) ≡ true) × ((not paired || even_from false (next_rows paired us)) ≡ true)
 unfolding next_rows
 even-next true us z e = let w = and_parts _ _ (sym (even-ended us z) ∙ e) in (λ p. w.0, w.1)
-even-next false us z e = (λ p. absurd (false_not_true p), refl)
+even-next false us z e = (λ p. absurd (false≢true p), refl)

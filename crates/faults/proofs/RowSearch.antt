@@ -2,13 +2,14 @@
 -- Assumes nothing.
 use Prim.Native.Nat.{ℕ, suc, ◌+◌, ◌-◌, ◌≤◌, ◌<◌}
 use native.Mathlib.Omega.{arith}
-use mathlib.Core.Path.{◌≡◌, refl, sym, ap, ◌∙◌}
+use mathlib.Core.Path.{◌≡◌, refl, sym, ap, subst, ◌∙◌}
 use mathlib.Core.Bool.{Bool, true, false, not, ◌&&◌, ◌||◌}
 use mathlib.Core.List.{List, [], ◌∷◌, tail}
 use lib.Dec.{ltb}
 use lib.ListN.{length, get_or, take, drop}
 use borrow.Author.Tests.{ltb-false}
-use Rattle.std.specs.Prelude.{Some, None}
+use Rattle.std.specs.Prelude.{Option, Some, None}
+use Rattle.std.specs.declared.iter.Enumerate.{Enumerate}
 use Rattle.meaning.specs.declared.Token.{Token}
 use Rattle.meaning.specs.declared.Rows.{Rows}
 use Rattle.meaning.specs.declared.Format.{Format}
@@ -16,18 +17,23 @@ use Rattle.meaning.specs.Codes.{tokens, is_double_height}
 use Rattle.meaning.specs.Lists.{all, any}
 use Rattle.meaning.specs.Rows.{first_row, is_double, is_paired, breaks_paired, rows, rows_of, height_first, even_from, heights_right, lines_of, row_count}
 use Rattle.meaning.specs.TextRules.{before_fault, end_first, breaks_rows, break_size, tokens_in, tokens_before, bytes_before, row_fault}
-use Rattle.meaning.proofs.Logic.{and_parts, or-none}
+use Rattle.std.proofs.lemmas.Bool.{and_parts, or_parts}
 use Rattle.meaning.proofs.TextPlaces.{bytes-add}
 use Rattle.rows.specs.declared.Row.{Row}
+use Rattle.rows.specs.declared.RowPlaces.{RowPlaces}
+use Rattle.rows.specs.Places.{start_after, row_places}
+use Rattle.rows.specs.PlacesLeft.{places_left}
+use Rattle.rows.proofs.Placed.{FirstPlace, first-place, start-next, start-none, no_place}
 use Rattle.rows.specs.Scanned.{is_ended, row_at, next_row_at, row_end_after}
 use Rattle.rows.proofs.FirstRow.{rows_after}
 use Rattle.rows.proofs.Laws.{rows-first, rows-after, no_rows_after}
-use Rattle.rows.proofs.RowEnds.{EndedAt, ended_at, not_ended, open-end, start-on, start-within, next-rows}
+use Rattle.rows.proofs.RowEnds.{EndedAt, ended_at, not_ended, open-end, start-within, next-rows}
 use Rattle.faults.specs.Searching.{row_name}
 use Rattle.faults.proofs.Passing.{Passed, passed_start, passed-found, passed-more, passed-end}
 use Rattle.faults.proofs.RowBytes.{row-bytes}
 use Rattle.faults.proofs.RowPlaces.{at_place, from_next, tokens-next, break_passed, even-next}
 
+-- as `lines_least` of laws, which this crate does not use
 lines_ge : (double : Bool) (n : Rows) → n.0 ≤ (lines_of double n).0
 unfolding lines_of
 lines_ge true n = omega arith
@@ -118,7 +124,7 @@ module _ {f : Format} {vp : ℕ} {double paired : Bool} {s : List ℕ} {start co
       pub count_low : f.screen.end < 256 → count ≤ 255
       count_low h =
           let end = vp + (lines_of double (record { 0 = count })).0 in
-          let w = or-none (not row.short) (ltb f.screen.end end) (sym b ∙ e) in
+          let w = or_parts (not row.short) (ltb f.screen.end end) (sym b ∙ e) in
           omega (arith, ltb-false f.screen.end end w.1, lines_ge double (record { 0 = count }))
 
       module _ {next : ℕ} (g : row.after ≡ Some next) {n : ℕ} (h : n ≡ next_row_at s paired next) where
@@ -127,10 +133,6 @@ module _ {f : Format} {vp : ℕ} {double paired : Bool} {s : List ℕ} {start co
 
         ended : is_ended us ≡ true
         ended = end.ended
-
-        -- what is left falls
-        pub rows_less : length s - n < length s - start
-        rows_less = omega (arith, end.on, end.within, start-on s paired next)
 
         -- another row
         pub rows_more : RowsLeft f vp double paired s n (count + 1)
@@ -157,6 +159,62 @@ module _ {f : Format} {vp : ℕ} {double paired : Bool} {s : List ℕ} {start co
               even = rw following ev.1;
               within = omega (arith, h, start-within s paired next end.within);
             }
+
+-- what is known where the next row starts, and after the last
+abbrev KnownAt : Format → ℕ → Bool → Bool → List ℕ → ℕ → Option ℕ → Type 0
+KnownAt f vp double paired s count (Some start) = RowsLeft f vp double paired s start count
+KnownAt f vp double paired s count None = length s ≡ row_fault_of f vp double paired s
+
+-- the rows that are left of a text, of which the first would be the `count`th
+pub record RowsTo (f : Format) (vp : ℕ) (double paired : Bool) (s : List ℕ) (left : List (ℕ × Row)) (count : ℕ) : Type 0 where
+  pub at : Option ℕ
+  pub places : left ≡ row_places s paired at
+  pub known : KnownAt f vp double paired s count at
+  pub low : count ≤ 256
+
+pub rows_begin :
+    {f : Format} {vp : ℕ} {double paired : Bool} {s : List ℕ} {left : List (ℕ × Row)} {count : ℕ} → left ≡ row_places s paired (Some 0) → count ≡ 1
+    → (not paired || even_from false (tokens s)) ≡ true → RowsTo f vp double paired s left count
+rows_begin e z k = record { at = Some 0; places = e; known = rw z (rows_start _ _ _ _ _ k); low = omega (arith, z) }
+
+-- the rows with their number in turn, where a loop over them begins
+pub record Numbered (s : List ℕ) (paired : Bool) (iterator : Enumerate RowPlaces) : Type 0 where
+  pub left : places_left iterator.iter ≡ row_places s paired (Some 0)
+  pub first : iterator.count ≡ 0
+
+pub numbered :
+    {s : List ℕ} {paired : Bool} {places : RowPlaces} {iterator items : Enumerate RowPlaces} → iterator ≡ items → items.iter ≡ places → items.count ≡ 0
+    → places_left places ≡ row_places s paired (Some 0) → Numbered s paired iterator
+numbered e f z k = rw e (record { left = ap places_left f ∙ k; first = z })
+
+module _ {f : Format} {vp : ℕ} {double paired : Bool} {s : List ℕ} {left : List (ℕ × Row)} {count : ℕ} (l : RowsTo f vp double paired s left count) where
+  module _ {x : ℕ × Row} {xs : List (ℕ × Row)} (e : left ≡ x ∷ xs) where
+    first : FirstPlace s paired l.at x xs
+    first = first-place s paired l.at (sym l.places ∙ e)
+
+    pub turn_row : x.1 ≡ row_at s x.0
+    turn_row = first.row
+
+    pub turn_left : RowsLeft f vp double paired s x.0 count
+    turn_left = subst (KnownAt f vp double paired s count) first.start l.known
+
+    module _ {broken : Bool} (b : broken ≡ (not x.1.short || ltb f.screen.end (vp + (lines_of double (record { 0 = count })).0))) (h : broken ≡ false) where
+      known-after : (r : Option ℕ) → x.1.after ≡ r → KnownAt f vp double paired s (count + 1) (start_after s paired x.0)
+      known-after None g = rw (start-none s paired x.0 (sym (row-after turn_left turn_row b) ∙ g)) (rows_last turn_left turn_row b h g)
+      known-after (Some next) g =
+          rw (start-next s paired x.0 (sym (row-after turn_left turn_row b) ∙ g)) (rows_more turn_left turn_row b h g refl)
+
+      pub rows_on : f.screen.end < 256 → RowsTo f vp double paired s xs (count + 1)
+      rows_on z =
+          record {
+            at = start_after s paired x.0;
+            places = first.others;
+            known = known-after x.1.after refl;
+            low = omega (arith, count_low turn_left turn_row b h z);
+          }
+
+  pub rows_all : left ≡ [] → length s ≡ row_fault_of f vp double paired s
+  rows_all e = subst (KnownAt f vp double paired s count) (no_place s paired l.at (sym l.places ∙ e)) l.known
 
 -- the fault, with the height and the pairing that were asked
 pub row_fault_lem :

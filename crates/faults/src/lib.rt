@@ -1,4 +1,4 @@
-// The byte of a text that breaks one of the rules 13 to 15. It is looked for only where `rows::verdict` says that one is broken.
+// The byte of a text that breaks one of the rules 13 to 15. It is looked for only where `SetText::verdict` says that one is broken.
 
 #![tactic(auto)]
 
@@ -11,9 +11,10 @@ ghost use Rattle.rows.specs.Scanning.{number_of};
 ghost use Rattle.faults.specs.Searching.{with_token, row_name};
 
 use charset::Readings;
-use meaning::{Format, Refusal, Rows, Token};
-use rows::TextRule;
+use meaning::{Refusal, Rows, Token};
+use rows::{RowPlaces, SetText, TextRule};
 
+#[tactic(auto, unfolding(meaning::specs::Codes::is_listed))]
 fn is_listed(t: Token, teletext: bool) -> bool
     ensures { result ≡ is_listed teletext t }
 {
@@ -26,6 +27,7 @@ fn is_listed(t: Token, teletext: bool) -> bool
     }
 }
 
+#[tactic(auto, unfolding(meaning::specs::Codes::is_character))]
 fn is_character(t: Token) -> bool
     ensures { result ≡ is_character t }
 {
@@ -46,7 +48,7 @@ fn code_fault(text: &[u8], teletext: bool) -> usize
 }
 
 // What stands before a token: any row end; a character in the token's row; a row end just before it.
-#[derive(Clone, Copy)]
+#[derive(Clone, Copy, Default)]
 struct Past {
     later: bool,
     character: bool,
@@ -54,12 +56,7 @@ struct Past {
 }
 
 impl Past {
-    const NONE: Past = Past {
-        later: false,
-        character: false,
-        ended: false,
-    };
-
+    #[tactic(auto, unfolding(crate::specs::Searching::with_token))]
     fn with_token(self, t: Token) -> Past
         ensures { result ≡ with_token self t }
     {
@@ -105,29 +102,29 @@ fn starts_odd_run(text: &[u8], i: usize, past: Past, paired: bool) -> bool
 }
 
 // Rule 14: where the first 0Dh stands that must not stand there, or the first row end of an odd run.
-fn height_fault(text: &[u8], f: Format) -> usize
-    ensures { result ≡ height_fault f.mode text.now }
+fn height_fault(text: SetText) -> usize
+    ensures { result ≡ height_fault text.entry.f.mode text.entry.bytes.now }
 {
-    let double = rows::is_double(text);
-    let paired = f.is_paired(double);
-    let mut past = Past::NONE;
-    for (at, read) in Readings::new(text, 0) {
+    let double = rows::is_double(text.bytes);
+    let paired = text.f.is_paired(double);
+    let mut past = Past::default();
+    for (at, read) in Readings::new(text.bytes, 0) {
         let t = read.token;
-        if past.forbids(t, double) | starts_odd_run(text, at, past, paired) {
+        if past.forbids(t, double) | starts_odd_run(text.bytes, at, past, paired) {
             return at;
         }
         past = past.with_token(t);
     }
-    text.len()
+    text.bytes.len()
 }
 
 // Whether a row breaks rule 15: it is not short, or it is the `count`th row and has a line past the last.
-fn breaks_rows(short: bool, count: u32, double: bool, f: Format, vp: u8) -> bool
-    ensures { result ≡ (not short || ltb f.screen.end (vp + (lines_of double (record { 0 = count })).0)) }
+fn breaks_rows(text: SetText, short: bool, count: u32, double: bool) -> bool
+    ensures { result ≡ (not short || ltb text.entry.f.screen.end (text.entry.vp + (lines_of double (record { 0 = count })).0)) }
 {
-    let screen = f.screen;
-    let lines = Rows(count).lines(double);
-    !short | ((screen.end as u64) < vp as u64 + lines.0)
+    let screen = text.f.screen;
+    let end = text.end(Rows(count), double);
+    !short | (u64::from(screen.end) < end)
 }
 
 // The row ends of a break.
@@ -138,6 +135,7 @@ fn break_size(paired: bool) -> usize
 }
 
 // The byte that names the row from a position on: its first, or, where it has none, the first of the break before it.
+#[tactic(auto, using(crate::proofs::RowNames::name_first, crate::proofs::RowNames::name_break))]
 fn row_name(text: &[u8], paired: bool, start: usize) -> usize
     ensures { result ≡ row_name paired start (first_row (tokens (drop start text.now))) }
 {
@@ -146,63 +144,52 @@ fn row_name(text: &[u8], paired: bool, start: usize) -> usize
     if (start < text.len()) & !rows::is_row_end(t) {
         return start;
     }
-    let size = break_size(paired);
-    if start < size {
-        return 0;
-    }
-    start - size
+    start.saturating_sub(break_size(paired))
 }
 
 // Rule 15: where the first row stands that is not short, or has a line past the last. Rule 14 holds, so that row ends stand in pairs
-// where they are paired. A `loop`: where a row starts is told by the row before it.
-fn row_fault(text: &[u8], f: Format, vp: u8) -> usize
-    requires { heights_right f.mode (tokens text.now) ≡ true }
-    ensures { result ≡ row_fault f vp text.now }
+// where they are paired.
+fn row_fault(text: SetText) -> usize
+    requires { heights_right text.f.mode (tokens text.bytes.now) ≡ true }
+    ensures { result ≡ row_fault text.entry.f text.entry.vp text.entry.bytes.now }
 {
-    let double = rows::is_double(text);
-    let paired = f.is_paired(double);
-    let mut start = 0;
-    let mut count = 1;
-    loop {
-        let row = rows::row_at(text, start);
-        if breaks_rows(row.short, count, double, f, vp) {
-            return row_name(text, paired, start);
+    let double = rows::is_double(text.bytes);
+    let paired = text.f.is_paired(double);
+    for (k, (start, row)) in RowPlaces::new(text.bytes, paired).enumerate() {
+        // The rows before this one fit the screen, so a u32 holds their number.
+        if breaks_rows(text, row.short, k as u32 + 1, double) {
+            return row_name(text.bytes, paired, start);
         }
-        let Some(next) = row.after else {
-            return text.len();
-        };
-        start = rows::row_after(text, paired, next);
-        count += 1;
     }
+    text.bytes.len()
 }
 
-// The number of a rule that a text breaks, and where it breaks it.
-fn fault(text: &[u8], f: Format, vp: u8, rule: TextRule) -> (u64, usize)
-    requires { number_of (Err rule) ≡ (text_rule f 0 vp text.now).number }
-    ensures number { result.0 ≡ (text_rule f 0 vp text.now).number }
-    ensures offset { result.1 ≡ (text_rule f 0 vp text.now).offset }
+// Where a text breaks a rule, which is the first that it breaks.
+#[tactic(auto, using(crate::proofs::Numbers::codes_fault, crate::proofs::Numbers::heights_fault, crate::proofs::Numbers::fit_fault, crate::proofs::Numbers::fit_heights))]
+fn fault(text: SetText, rule: TextRule) -> usize
+    requires { number_of (Err rule) ≡ (text_rule text.f 0 text.vp text.bytes.now).number }
+    ensures { result ≡ (text_rule text.entry.f 0 text.entry.vp text.entry.bytes.now).offset }
 {
     match rule {
-        TextRule::Codes => (13, code_fault(text, f.teletext)),
-        TextRule::Heights => (14, height_fault(text, f)),
-        TextRule::Fit => (15, row_fault(text, f, vp)),
+        TextRule::Codes => code_fault(text.bytes, text.f.teletext),
+        TextRule::Heights => height_fault(text),
+        TextRule::Fit => row_fault(text),
     }
 }
 
 // Whether the text of a set keeps the rules 13, 14 and 15, or the first that it breaks, with the byte of the text; the set begins at
 // block `place`.
-pub fn text_rule(text: &[u8], f: Format, place: u64, vp: u8) -> Result<(), Refusal>
-    ensures { result ≡ verdict (text_rule f place vp text.now) }
+#[tactic(auto, using(crate::proofs::Numbers::kept_told, crate::proofs::Numbers::broken_told, crate::proofs::Numbers::err_number), unfolding(rows::specs::Scanning::number_of))]
+pub fn text_rule(text: SetText, place: u64) -> Result<(), Refusal>
+    ensures { result ≡ verdict (text_rule text.entry.f place text.entry.vp text.entry.bytes.now) }
 {
-    match rows::verdict(text, f, vp) {
-        Ok(()) => Ok(()),
-        Err(rule) => {
-            let (number, offset) = fault(text, f, vp, rule);
-            Err(Refusal {
-                number,
-                place,
-                offset: offset as u64,
-            })
-        }
-    }
+    // No `map_err` (tried): of a closure that calls what requires something, nothing is known of what it gives.
+    let Err(rule) = text.verdict() else {
+        return Ok(());
+    };
+    Err(Refusal {
+        number: u64::from(rule),
+        place,
+        offset: fault(text, rule) as u64,
+    })
 }

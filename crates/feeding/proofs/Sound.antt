@@ -12,7 +12,8 @@ use borrow.Author.Tests.{leb-true, ltb-true, eqb-true, le-leb, lt-ltb, eq-eqb}
 use Rattle.meaning.specs.Blocks.{gsi_size, block_size}
 use Rattle.meaning.specs.Gsi.{most_blocks, format_of}
 use Rattle.meaning.specs.Walk.{set_rule}
-use Rattle.meaning.proofs.Logic.{by_le, and_parts, and_true, or_parts, or_true_left, or_true_right}
+use Rattle.std.proofs.lemmas.Bool.{and_from, and_parts, or_cases, or_left, or_right}
+use Rattle.meaning.proofs.Logic.{by_le}
 use Rattle.laws.proofs.Walk.{WithinIf, step-within, start-within}
 use Rattle.closed.specs.Body.{empty_body, lay_set}
 use Rattle.feeding.specs.Feeding.{Check, opened, with_block, with_byte, fed}
@@ -36,10 +37,10 @@ module _ (c : Check) where
   first-test : (length c.gsi < gsi_size → (length c.part ≡ 0) × (c.count ≡ 0)) → first_test ≡ true
   first-test h =
       by_le gsi_size (length c.gsi)
-      (λ l. or_true_left _ _ (le-leb gsi_size (length c.gsi) l))
+      (λ l. or_left _ _ (le-leb gsi_size (length c.gsi) l))
       (λ l.
-      or_true_right (leb gsi_size (length c.gsi)) _
-      (and_true _ _ (eq-eqb (length c.part) 0 (h l).0) (eq-eqb c.count 0 (h l).1)))
+      or_right (leb gsi_size (length c.gsi)) _
+      (and_from _ _ (eq-eqb (length c.part) 0 (h l).0) (eq-eqb c.count 0 (h l).1)))
 
   tested-first : first_test ≡ true → length c.gsi < gsi_size → (length c.part ≡ 0) × (c.count ≡ 0)
   tested-first e l =
@@ -48,16 +49,16 @@ module _ (c : Check) where
       (λ t.
       let a = and_parts (eqb (length c.part) 0) (eqb c.count 0) t in
       (eqb-true (length c.part) 0 a.0, eqb-true c.count 0 a.1))
-      (or_parts (leb gsi_size (length c.gsi)) _ e)
+      (or_cases (leb gsi_size (length c.gsi)) _ e)
 
   -- the facts pass the test, and the test gives the facts
   pub facts-sound : Sounds c → is_sound c ≡ true
   unfolding is_sound
   facts-sound s =
-      and_true _ _
-      (and_true _ _
-      (and_true _ _
-      (and_true _ _ (le-leb (length c.gsi) gsi_size s.gsi-short) (lt-ltb (length c.part) block_size s.part-short))
+      and_from _ _
+      (and_from _ _
+      (and_from _ _
+      (and_from _ _ (le-leb (length c.gsi) gsi_size s.gsi-short) (lt-ltb (length c.part) block_size s.part-short))
       (le-leb c.count (suc most_blocks) s.count_low))
       (first-test s.gsi-first))
       (within-test (min c.count most_blocks) c.outcome s.within)

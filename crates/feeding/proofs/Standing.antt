@@ -65,26 +65,23 @@ module _ (mode room : ℕ) where
     stands_parts : fed (opened mode room) (gsi ++ (whole ++ part)) ≡ standing mode room (gsi ++ (whole ++ part))
     stands_parts = fed-parts ∙ sym standing-parts
 
-  -- a check that was fed a file
-  pub stands : (file : List ℕ) → fed (opened mode room) file ≡ standing mode room file
-  unfolding block_count
-  stands file =
-      by_le (length file) gsi_size
-      (λ h. stands-short file h)
-      (λ h.
-      let k = block_count file in
-      let rest = drop gsi_size file in
-      let l : length rest ≡ length file - gsi_size = length-drop gsi_size file in
-      let whole = take (block_size * k) rest in
-      let part = drop (block_size * k) rest in
-      let z : take gsi_size file ++ (whole ++ part) ≡ file =
-      ap (λ (r : List ℕ). take gsi_size file ++ r) (take-append-drop (block_size * k) rest) ∙ take-append-drop gsi_size file
-      in
-      subst (λ (x : List ℕ). fed (opened mode room) x ≡ standing mode room x) z
-      (stands_parts (take gsi_size file) whole part k
-      (length-take-le gsi_size file (omega arith))
-      (length-take-le (block_size * k) rest (omega arith))
-      (simp length-drop (omega arith))))
-
-pub always_stands : Stands
-always_stands mode room file = stands mode room file
+-- a check that was fed a file
+pub stands : Stands
+unfolding block_count
+stands mode room file =
+    by_le (length file) gsi_size
+    (λ h. stands-short mode room file h)
+    (λ h.
+    let k = block_count file in
+    let rest = drop gsi_size file in
+    let l : length rest ≡ length file - gsi_size = length-drop gsi_size file in
+    let whole = take (block_size * k) rest in
+    let part = drop (block_size * k) rest in
+    let z : take gsi_size file ++ (whole ++ part) ≡ file =
+    ap (λ (r : List ℕ). take gsi_size file ++ r) (take-append-drop (block_size * k) rest) ∙ take-append-drop gsi_size file
+    in
+    subst (λ (x : List ℕ). fed (opened mode room) x ≡ standing mode room x) z
+    (stands_parts mode room (take gsi_size file) whole part k
+    (length-take-le gsi_size file (omega arith))
+    (length-take-le (block_size * k) rest (omega arith))
+    (simp length-drop (omega arith))))

@@ -11,7 +11,8 @@ use Rattle.meaning.specs.Blocks.{text_size}
 use Rattle.meaning.specs.Sets.{BlockSet, numbered_blocks}
 use Rattle.meaning.specs.Walk.{total, Outcome}
 use Rattle.meaning.specs.Walk.Outcome.{refused, accepted}
-use Rattle.meaning.proofs.Logic.{and_parts, and_true, none_not_some}
+use Rattle.std.proofs.lemmas.Bool.{and_from, and_parts}
+use mathlib.Core.Option.{none-ne-some}
 use Rattle.laws.proofs.Walk.{Short, WithinIf}
 use Rattle.closed.specs.Body.{Body}
 use Rattle.feeding.specs.Sound.{is_short_so_far, is_within}
@@ -22,12 +23,12 @@ unfolding is_short_so_far
 short-test n none h = refl
 short-test n (some s) h =
     let q = h s refl in
-    and_true _ _ (and_true _ _ (lt-ltb s.last numbered_blocks q.last) (lt-ltb s.last n q.few))
+    and_from _ _ (and_from _ _ (lt-ltb s.last numbered_blocks q.last) (lt-ltb s.last n q.few))
     (le-leb (length s.text) (text_size * suc s.last) q.size)
 
 tested-short : (n : ℕ) (o : Option BlockSet) → is_short_so_far n o ≡ true → (s : BlockSet) → o ≡ some s → Short n s
 unfolding is_short_so_far
-tested-short n none e s g = absurd (none_not_some g)
+tested-short n none e s g = absurd (none-ne-some _ g)
 tested-short n (some t) e s g =
     let a = and_parts (ltb t.last numbered_blocks && ltb t.last n) (leb (length t.text) (text_size * suc t.last)) e in
     let b = and_parts (ltb t.last numbered_blocks) (ltb t.last n) a.0 in
@@ -44,7 +45,7 @@ pub within-test : (n : ℕ) (o : Outcome Body) → WithinIf n o → is_within n 
 unfolding is_within
 within-test n (refused r) h = refl
 within-test n (accepted p) h =
-    and_true _ _ (eq-eqb (total p.counts) n h.counts) (short-test n p.assembly.current h.fits)
+    and_from _ _ (eq-eqb (total p.counts) n h.counts) (short-test n p.assembly.current h.fits)
 
 pub tested-within : (n : ℕ) (o : Outcome Body) → is_within n o ≡ true → WithinIf n o
 unfolding is_within

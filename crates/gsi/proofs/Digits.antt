@@ -78,7 +78,7 @@ module _ (s : List ℕ) where
   unfolding decimal number_in
   decimal_or_0 = by_test (all is_digit s) (λ e. rw e) (λ e. rw e)
 
--- two digits at most write a number that fits a byte
-pub two_digits : (s : List ℕ) (o : Option ℕ) → length s ≤ 2 → IfSome o (λ n. n < 10 ^ length s) → unwrap_or o 0 < 256
-two_digits s None h k = omega arith
+-- two digits at most write a number below 100
+pub two_digits : (s : List ℕ) (o : Option ℕ) → length s ≤ 2 → IfSome o (λ n. n < 10 ^ length s) → IfSome o (λ n. n < 100)
+two_digits s None h k = k
 two_digits s (Some n) h k = omega (arith, lt_of_lt_of_le k (pow-le-pow_right {n = 10} (omega arith) h))

@@ -51,7 +51,7 @@ fn is_whole(size: usize) -> bool
     GSI_SIZE <= size && (size - GSI_SIZE) % BLOCK_SIZE == 0
 }
 
-// The number that decimal digits write; none where a byte is no digit.
+// The number that decimal digits write; none where a byte is no digit. By hand: `str::parse` takes a sign too.
 #[tactic(auto, using(crate::proofs::Digits::reading_more, crate::proofs::Digits::reading_wrong, crate::proofs::Digits::reading_done), unfolding(meaning::specs::Gsi::is_digit))]
 fn read_decimal(digits: &[u8]) -> Option<usize>
     requires { length digits.now ≤ 5 }
@@ -76,19 +76,20 @@ fn counts_blocks(gsi: &[u8], count: usize) -> bool
     read_decimal(field(gsi, TNB_AT, 5)) == Some(count)
 }
 
-// MNR, 0 where one of its bytes is no digit.
-#[tactic(auto, using(block::proofs::Fields::field_length, crate::proofs::Digits::two_digits, crate::proofs::Digits::decimal_or_0), unfolding(meaning::specs::Gsi::mnr))]
-fn mnr(file: &[u8]) -> u8
-    ensures { result ≡ mnr file.now }
+// MNR; none where one of its bytes is no digit.
+#[tactic(auto, using(block::proofs::Fields::field_length, crate::proofs::Digits::decimal_or_0), unfolding(meaning::specs::Gsi::mnr))]
+fn mnr(file: &[u8]) -> Option<usize>
+    ensures number { unwrap_or result 0 ≡ mnr file.now }
+    ensures small { IfSome result (λ n. n < 100) }
 {
-    read_decimal(field(file, MNR_AT, 2)).unwrap_or(0) as u8
+    read_decimal(field(file, MNR_AT, 2))
 }
 
-// DSC, 0 in a file that ends before it.
-fn dsc(file: &[u8]) -> u8
-    ensures { result ≡ dsc file.now }
+// DSC; none in a file that ends before it.
+fn dsc(file: &[u8]) -> Option<u8>
+    ensures { unwrap_or result 0 ≡ dsc file.now }
 {
-    file.get(DSC_AT).copied().unwrap_or(0)
+    file.get(DSC_AT).copied()
 }
 
 // DSC is that of a teletext file.
@@ -96,7 +97,7 @@ fn dsc(file: &[u8]) -> u8
 fn is_teletext(file: &[u8]) -> bool
     ensures { result ≡ is_teletext file.now }
 {
-    matches!(dsc(file), b'1' | b'2')
+    matches!(dsc(file), Some(b'1' | b'2'))
 }
 
 // DSC is that of a teletext file or of open subtitles.
@@ -104,14 +105,14 @@ fn is_teletext(file: &[u8]) -> bool
 fn is_known_kind(gsi: &[u8]) -> bool
     ensures { result ≡ (is_teletext gsi.now || eqb (dsc gsi.now) 48) }
 {
-    is_teletext(gsi) || dsc(gsi) == b'0'
+    is_teletext(gsi) || dsc(gsi) == Some(b'0')
 }
 
 // A screen of open subtitles has at least one row.
 fn has_rows(gsi: &[u8]) -> bool
     ensures { result ≡ (is_teletext gsi.now || leb 1 (mnr gsi.now)) }
 {
-    is_teletext(gsi) || 1 <= mnr(gsi)
+    is_teletext(gsi) || mnr(gsi).is_some_and(|rows| 1 <= rows)
 }
 
 #[tactic(auto, using(crate::proofs::Comparing::bytes_eq_same), unfolding(meaning::specs::Lists::bytes))]
@@ -128,7 +129,8 @@ fn is_mode(mode: u64) -> bool
     matches!(mode, 1 | 2)
 }
 
-// The lines 1 to 23 of a teletext page, or the rows that MNR gives, from 0 on.
+// The lines 1 to 23 of a teletext page, or the rows that MNR gives, from 0 on. Where it gives none there are 0 rows, as
+// `Gsi.screen_of` has it: rule 6 refuses such a file.
 #[tactic(auto, unfolding(meaning::specs::Gsi::screen_of))]
 fn screen_of(file: &[u8]) -> Screen
     ensures { result ≡ screen_of file.now }
@@ -136,11 +138,12 @@ fn screen_of(file: &[u8]) -> Screen
     if is_teletext(file) {
         return Screen { first: 1, end: 24 };
     }
-    let end = mnr(file);
+    let end = mnr(file).unwrap_or(0) as u8;
     Screen { first: 0, end }
 }
 
-// How a file is read in a break mode. Its rate is 0 where DFC is neither of the two: no file with such a DFC is converted.
+// How a file is read in a break mode. Where DFC is neither of the two the rate is 0, as `Gsi.format_of` has it: rule 3 refuses
+// such a file.
 #[tactic(auto, unfolding(meaning::specs::Gsi::format_of))]
 pub fn format(file: &[u8], mode: u64) -> Format
     ensures { result ≡ format_of mode file.now }
@@ -154,7 +157,7 @@ pub fn format(file: &[u8], mode: u64) -> Format
 }
 
 // The first of the rules 1 to 6 that is broken, by the GSI block, the break mode, the file's end, whether it has whole blocks,
-// and how many.
+// and how many: what the definition `gsi_rules` takes.
 #[tactic(auto, using(crate::proofs::Rules::gsi_verdict))]
 pub fn gsi_rule(gsi: &[u8], mode: u64, end: u64, whole: bool, count: usize) -> Result<(), Refusal>
     ensures { result ≡ verdict (first_broken 0 (gsi_rules mode end whole count gsi.now)) }

@@ -1,4 +1,4 @@
-// The rules 8 to 12 over a set's first block.
+// The rules 8 to 12 over a set's first block. The place goes along to each rule, as `Refusals.first_broken` has it.
 
 #![tactic(auto)]
 
@@ -8,6 +8,7 @@ ghost use Rattle.meaning.specs.Blocks.{in_frames, time_rules, times_rules, on_sc
 
 use meaning::{Format, Header, Refusal, Screen, Time};
 
+// A time in frames, by which `times_rules` compares: a derived order of `Time` agrees only where all its parts are in range.
 #[tactic(auto, unfolding(meaning::specs::Blocks::in_frames))]
 fn in_frames(t: Time, rate: u8) -> u32
     ensures { result ≡ in_frames rate t }

@@ -18,7 +18,8 @@ use Rattle.meaning.specs.Walk.{total, Subtitle, Progress, Outcome, walk, set_rul
 use Rattle.meaning.specs.Walk.Outcome.{refused, accepted}
 use Rattle.meaning.specs.Document.{render, document_spans}
 use Rattle.meaning.specs.Conversion.{document_of, refused_answer, accepted_answer, answer_by, answer_to, answer, buffer_after, output}
-use Rattle.meaning.proofs.Logic.{by_test, and_parts}
+use Rattle.std.proofs.lemmas.Bool.{and_parts}
+use Rattle.meaning.proofs.Logic.{by_test}
 use Rattle.meaning.proofs.ListLaws.{All, Any, any-blocks}
 use Rattle.meaning.proofs.RefusalLaws.{unbroken, Known, broken-known}
 use Rattle.laws.proofs.Gathering.{refused-not, finish-accepted}

@@ -9,6 +9,7 @@ use mathlib.Core.List.{List, [], ◌∷◌, ◌++◌, map, flat_map}
 use lib.Dec.{eqb, ltb}
 use lib.ListN.{length, replicate, length-append, length-map, length-take, length-replicate}
 use borrow.Author.Tests.{leb-true}
+use Rattle.std.specs.Prelude.{Option, Some, None, option_to_list}
 use Rattle.meaning.specs.declared.Token.{Token}
 use Rattle.meaning.specs.Lists.{all, keep, joined, up_from, bytes, field}
 use Rattle.meaning.specs.declared.Look.{Look}
@@ -33,7 +34,8 @@ use Rattle.meaning.specs.Document.Alignment.{left, centre, right}
 use Rattle.meaning.specs.Conversion.{span_of, row_spans, later_rows, row_pieces, fillers, paragraph_of, document_of}
 use Rattle.meaning.specs.Profile.{starts_with, span_elements}
 use Rattle.meaning.proofs.DigitLaws.{digits-length}
-use Rattle.meaning.proofs.Logic.{by_test, by_cond, and_parts, between}
+use Rattle.std.proofs.lemmas.Bool.{and_parts}
+use Rattle.meaning.proofs.Logic.{by_test, by_cond, between}
 use Rattle.meaning.proofs.ListLaws.{All, Any, any-blocks, all_of, all_copies, all_map, join_append, test-nil, test_split}
 use Rattle.meaning.proofs.RefusalLaws.{unbroken}
 use Rattle.meaning.proofs.ListLaws.All.{nil, cons}
@@ -114,9 +116,13 @@ escaped_bound p =
     (either_bound 5 (eqb p 60) _ _ (omega arith) (either_bound 5 (eqb p 62) _ _ (omega arith) (utf8_bound p)))
 
 -- a span
+mark_bound : (m : Option ℕ) → length (option_to_list m) ≤ 1
+mark_bound None = omega arith
+mark_bound (Some m) = omega arith
+
 points_bound : (c : Cell) → length (points c) ≤ 2
 unfolding points spelling
-points_bound c = by_test (eqb c.character.mark 0) (λ e. rw e (omega arith)) (λ e. rw e (omega arith))
+points_bound c = omega (arith, mark_bound c.character.mark)
 
 span_bound : (g : List Cell) → length (write_piece (span (span_of g))) ≤ 32 + 10 * length g
 unfolding write_piece write_span span_of style_name joined bytes

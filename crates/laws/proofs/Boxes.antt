@@ -12,7 +12,8 @@ use Rattle.meaning.specs.Lists.{any}
 use Rattle.meaning.specs.Codes.{is_control_of, is_box_start, is_box_end, is_box_code}
 use Rattle.meaning.specs.Looks.{start_look}
 use Rattle.meaning.specs.Cells.{Pen, cell_character, control_here, control_next, switched, look_here, look_next, hidden_next, hidden_cell, hidden_if, cell_of, pen_after, pen_end, row_start}
-use Rattle.meaning.proofs.Logic.{by_test, false_not_true, or-none}
+use Rattle.std.proofs.lemmas.Bool.{false≢true, or_parts}
+use Rattle.meaning.proofs.Logic.{by_test}
 use Rattle.meaning.proofs.ListLaws.{any-cons, none_split}
 use Rattle.laws.specs.Boxes.{in_box, look_end, BoxedText}
 
@@ -39,7 +40,7 @@ one_token true false false false h e = refl
 one_token true false false true h e = refl
 one_token true false true false h e = refl
 one_token true false true true h e = refl
-one_token true true ends inside h e = absurd (false_not_true (sym e))
+one_token true true ends inside h e = absurd (false≢true (sym e))
 
 -- after tokens, from any pen
 hidden-end : (p : Pen) (ts : List Token) → (pen_end p ts).hidden ≡ (not (in_box ts) && (any is_box_end ts || p.hidden))
@@ -55,7 +56,7 @@ unfolding is_box_code
 no_end [] after e = unfold any in refl
 no_end (t ∷ ts) after e =
     let h = none_split is_box_code t (ts ++ after) e in
-    rw (any-cons is_box_end t ts, (or-none (is_box_start t) (is_box_end t) h.0).1) (no_end ts after h.1)
+    rw (any-cons is_box_end t ts, (or_parts (is_box_start t) (is_box_end t) h.0).1) (no_end ts after h.1)
 
 hidden_at : (l : Look) (before after : List Token) → (pen_end (row_start (before ++ after) l) before).hidden ≡ (any is_box_code (before ++ after) && not (in_box before))
 unfolding row_start

@@ -98,7 +98,7 @@ tokens_writable (c ∷ d ∷ cs) =
     (λ e. rw (tokens_pair c d cs e) (cons (pair_writable c d) (tokens_writable cs)))
     (λ e. rw (tokens-code c d cs e) (cons (code_writable c) (tokens_writable (d ∷ cs))))
 
-here-bits : (t : Token) (l : Look) → ThreeBits l → ThreeBits (look_here t l)
+pub here-bits : (t : Token) (l : Look) → ThreeBits l → ThreeBits (look_here t l)
 unfolding look_here control_here
 here-bits (Character g) l h = h
 here-bits (Control c) l h =

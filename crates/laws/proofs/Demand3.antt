@@ -14,7 +14,7 @@ use Rattle.meaning.specs.Document.{Document, render, document_spans}
 use Rattle.meaning.specs.Conversion.{document_of, accepted_answer, answer, output}
 use Rattle.meaning.specs.Profile.{in_profile, Writes, Shows, span_elements}
 use Rattle.laws.specs.Demands.{FewestSpans}
-use Rattle.meaning.proofs.Logic.{and_true}
+use Rattle.std.proofs.lemmas.Bool.{and_from}
 use Rattle.meaning.proofs.ListLaws.{All}
 use Rattle.meaning.proofs.ListLaws.All.{nil, cons}
 use Rattle.laws.proofs.FewestInAll.{document-fewest}
@@ -40,7 +40,7 @@ module _ (mode : ℕ) (file : List ℕ) (b : Bytes file) (buffer : List ℕ) (e 
   own-written =
       record {
         profile =
-            and_true _ _ (rate-right mode file (rule-kept mode file taken.progress taken.came))
+            and_from _ _ (rate-right mode file (rule-kept mode file taken.progress taken.came))
             (own-paragraphs (format_of mode file) 0 _ taken.progress.gathered taken.held.made taken.held.ready.order);
         bytes = front-is-document taken;
       }

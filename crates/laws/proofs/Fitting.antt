@@ -12,7 +12,8 @@ use Rattle.meaning.specs.Cells.{Cell, is_blank}
 use Rattle.meaning.specs.Looks.{shared, free}
 use Rattle.meaning.specs.Spans.{fits, foreground_of, look_of, uniform}
 use Rattle.meaning.proofs.LookLaws.{blend-shared, blend-free}
-use Rattle.meaning.proofs.Logic.{by_test, false_not_true, and_parts, and_true, or_second, or_true_left, or_true_right}
+use Rattle.std.proofs.lemmas.Bool.{and_from, and_parts, false≢true, or_left, or_right}
+use Rattle.meaning.proofs.Logic.{by_test, or_second}
 use Rattle.meaning.proofs.ListLaws.{All, all_so, all_tested, test-all}
 use Rattle.meaning.proofs.ListLaws.All.{nil, cons}
 
@@ -24,8 +25,8 @@ pub record Fits (l : Look) (c : Cell) : Type 0 where
 pub fits_true : {l : Look} {c : Cell} → Fits l c → fits l c ≡ true
 unfolding fits
 fits_true {l} {c} f =
-    and_true _ _ (eq-eqb _ _ f.shares)
-    (by_test (is_blank c) (λ e. or_true_left _ _ e) (λ e. or_true_right (is_blank c) _ (eq-eqb _ _ (f.agrees e))))
+    and_from _ _ (eq-eqb _ _ f.shares)
+    (by_test (is_blank c) (λ e. or_left _ _ e) (λ e. or_right (is_blank c) _ (eq-eqb _ _ (f.agrees e))))
 
 pub fits_says : (l : Look) (c : Cell) → fits l c ≡ true → Fits l c
 unfolding fits
@@ -59,7 +60,7 @@ module _ (l m : Look) (s : shared m ≡ shared l) where
   pub refit_blank : {cs : List Cell} → All Blank cs → All (Fits l) cs → All (Fits m) cs
   refit_blank nil h = nil
   refit_blank (cons e k) (cons f h) =
-      cons (record { shares = f.shares ∙ sym s; agrees = λ g. absurd (false_not_true (sym g ∙ e)) }) (refit_blank k h)
+      cons (record { shares = f.shares ∙ sym s; agrees = λ g. absurd (false≢true (sym g ∙ e)) }) (refit_blank k h)
 
 -- the look of a span shares with its first cell, and is else like its foreground
 pub look-shared : (c : Cell) (cs : List Cell) → shared (look_of (c ∷ cs)) ≡ shared c.look

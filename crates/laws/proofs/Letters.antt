@@ -10,12 +10,15 @@ use mathlib.Core.Logic.{◌⊎◌, inl, inr, ⊎_elim}
 use lib.Dec.{T, leb, eqb}
 use lib.ListN.{length, get_or}
 use borrow.Author.Tests.{eq-eqb, eqb-true}
+use Rattle.std.specs.Prelude.{Some}
+use Rattle.std.specs.Option.{option_eq}
 use Rattle.meaning.specs.Lists.{all}
 use Rattle.meaning.specs.Tables.{composed_table}
 use Rattle.meaning.specs.Glyphs.{marks}
 use Rattle.meaning.specs.Characters.{accents, accent, letter, composed, mark_of}
 use Rattle.laws.specs.Letters.{LettersRule}
-use Rattle.meaning.proofs.Logic.{and_parts, or_parts, not-both, between}
+use Rattle.std.proofs.lemmas.Bool.{and_parts, or_cases}
+use Rattle.meaning.proofs.Logic.{not-both, between}
 use Rattle.meaning.proofs.ListLaws.{test_at}
 
 in_range : ℕ → Bool
@@ -36,14 +39,14 @@ test = (refl, refl, refl)
 
 in_range_lem : (x : ℕ) → in_range x ≡ true → (x ≡ 0) ⊎ ((192 ≤ x) × (x ≤ 7929))
 unfolding in_range
-in_range_lem x e = ⊎_elim (λ f. inl (eqb-true x 0 f)) (λ f. inr (between 192 7929 x f)) (or_parts (eqb x 0) _ e)
+in_range_lem x e = ⊎_elim (λ f. inl (eqb-true x 0 f)) (λ f. inr (between 192 7929 x f)) (or_cases (eqb x 0) _ e)
 
 unlike-at : (x : ℕ) (xs : List ℕ) → unlike x xs ≡ true → (k : ℕ) → k < length xs → x ≡ get_or xs k 0 → x ≡ 0
 unfolding unlike
 unlike-at x xs e k h q =
     ⊎_elim (λ f. eqb-true x 0 f)
     (λ f. absurd (not-both (eqb x (get_or xs k 0)) (eq-eqb _ _ q) (test_at (λ y. not (eqb x y)) xs 0 f k h)))
-    (or_parts (eqb x 0) _ e)
+    (or_cases (eqb x 0) _ e)
 
 distinct-at : (xs : List ℕ) → distinct xs ≡ true → (i j : ℕ) → i < j → j < length xs → get_or xs i 0 ≡ get_or xs j 0 → get_or xs i 0 ≡ 0
 unfolding distinct
@@ -80,7 +83,7 @@ samples =
     ∷ []
 
 is_sample : ℕ × ℕ × ℕ × ℕ → Bool
-is_sample s = eqb (mark_of (accent s.0)) s.1 && eqb (composed (accent s.0) (letter s.2)) s.3
+is_sample s = option_eq eqb (mark_of (accent s.0)) (Some s.1) && eqb (composed (accent s.0) (letter s.2)) s.3
 
 marks-right : T (all is_sample samples)
 unfolding all samples is_sample marks mark_of accents accent letter composed composed_table

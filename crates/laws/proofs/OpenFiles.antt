@@ -23,7 +23,8 @@ use Rattle.meaning.specs.Walk.{Subtitle, Outcome, finish, walk, set_rule, subtit
 use Rattle.meaning.specs.Walk.Outcome.{refused, accepted}
 use Rattle.meaning.specs.Conversion.{paragraph_of, document_of, answer_to, answer, buffer_after, output}
 use Rattle.laws.specs.OpenFiles.{NoBoxes, OneMode, is_white_on_black, is_plain, is_plain_cell, is_plain_subtitle, WhiteOnBlack}
-use Rattle.meaning.proofs.Logic.{by_test, false_not_true, and_parts}
+use Rattle.std.proofs.lemmas.Bool.{and_parts, false≢true}
+use Rattle.meaning.proofs.Logic.{by_test}
 use Rattle.meaning.proofs.ListLaws.{Any, any-blocks, all_so, any-cons, test-nil, test_split, test-all, while_on, while_off}
 use Rattle.meaning.proofs.RefusalLaws.{unbroken}
 use Rattle.laws.proofs.Gathering.{mapped-same, walks_mapped}
@@ -35,7 +36,7 @@ use Rattle.laws.proofs.Accepted.{outcome-kept}
 no_control : (code : ℕ) (t : Token) → is_listed false t ≡ true → is_control_of code t ≡ false
 unfolding is_listed is_control_of
 no_control code (Character p) e = refl
-no_control code (Control c) e = absurd (false_not_true e)
+no_control code (Control c) e = absurd (false≢true e)
 no_control code (Switch c) e = refl
 no_control code RowEnd e = refl
 no_control code Unlisted e = refl
@@ -130,7 +131,7 @@ module _ (file : List ℕ) (o : is_teletext file ≡ false) where
 here-plain : (t : Token) (l : Look) → is_listed false t ≡ true → is_plain l ≡ true → is_plain (look_here t l) ≡ true
 unfolding is_listed look_here
 here-plain (Character p) l e h = h
-here-plain (Control c) l e h = absurd (false_not_true e)
+here-plain (Control c) l e h = absurd (false≢true e)
 here-plain (Switch c) l e h = h
 here-plain RowEnd l e h = h
 here-plain Unlisted l e h = h
@@ -138,7 +139,7 @@ here-plain Unlisted l e h = h
 next-plain : (t : Token) (l : Look) → is_listed false t ≡ true → is_plain l ≡ true → is_plain (look_next t l) ≡ true
 unfolding is_listed look_next switched is_plain is_white_on_black
 next-plain (Character p) l e h = h
-next-plain (Control c) l e h = absurd (false_not_true e)
+next-plain (Control c) l e h = absurd (false≢true e)
 next-plain (Switch c) l e h = h
 next-plain RowEnd l e h = h
 next-plain Unlisted l e h = h

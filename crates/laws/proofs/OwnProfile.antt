@@ -22,7 +22,7 @@ use Rattle.meaning.specs.Document.{Piece}
 use Rattle.meaning.specs.Document.Piece.{span, br}
 use Rattle.meaning.specs.Conversion.{span_of, row_spans, later_rows, row_pieces, paragraph_of}
 use Rattle.meaning.specs.Profile.{is_scalar, piece_in_profile, paragraphs_in_profile}
-use Rattle.meaning.proofs.Logic.{and_true}
+use Rattle.std.proofs.lemmas.Bool.{and_from}
 use Rattle.meaning.proofs.ListLaws.{All, all_append, all_copies, all_map, test-all}
 use Rattle.meaning.proofs.RefusalLaws.{Holds, times_numbered, unbroken, unbroken-all}
 use Rattle.meaning.proofs.ListLaws.All.{nil, cons}
@@ -65,8 +65,8 @@ unfolding piece_in_profile span_of
 span_right g h =
     let k = characters-spelled h in
     rw (points_of g)
-    (and_true _ _
-    (and_true _ _ (lt-ltb (pack (look_of g)) look_count (pack-small (look_of g) (span-bits g h))) (test-all is_scalar (points_scalar k)))
+    (and_from _ _
+    (and_from _ _ (lt-ltb (pack (look_of g)) look_count (pack-small (look_of g) (span-bits g h))) (test-all is_scalar (points_scalar k)))
     (marks_stand_lem false k))
 
 row-right : (row : List Cell) → All Sound row → All InProfile (map span (row_spans row))
@@ -115,10 +115,10 @@ pub own-paragraphs :
 unfolding paragraphs_in_profile paragraph_of
 own-paragraphs f lo hi [] k a = refl
 own-paragraphs f lo hi (s ∷ ss) (cons m k) a =
-    and_true _ _
-    (and_true _ _
-    (and_true _ _
-    (and_true _ _ (le-leb lo s.first.sn a.0) (lt-ltb s.first.sn 65536 (opened-sn m.opened)))
+    and_from _ _
+    (and_from _ _
+    (and_from _ _
+    (and_from _ _ (le-leb lo s.first.sn a.0) (lt-ltb s.first.sn 65536 (opened-sn m.opened)))
     (times-right f m.opened.place m.opened.least s.first m.subtitle m.opened.rules))
     (pieces-right f s (made-sound f s m)))
     (own-paragraphs f _ hi ss k a.1)

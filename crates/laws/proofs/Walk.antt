@@ -23,7 +23,9 @@ use Rattle.meaning.specs.Sets.{BlockSet, Assembly, Event, no_blocks, unless, clo
 use Rattle.meaning.specs.Sets.Event.{broken, pending, closed}
 use Rattle.meaning.specs.Walk.{no_counts, total, counted, is_open, begun, Progress, Outcome, finish, judge, step, walk, set_rule, Subtitle, subtitle_of, subtitles_from, with_subtitles}
 use Rattle.meaning.specs.Walk.Outcome.{refused, accepted}
-use Rattle.meaning.proofs.Logic.{by_test, by_option, or_parts, and_parts, none_not_some, false_not_true}
+use Rattle.std.proofs.lemmas.Bool.{and_parts, false≢true, or_cases}
+use mathlib.Core.Option.{none-ne-some}
+use Rattle.meaning.proofs.Logic.{by_test, by_option}
 use Rattle.meaning.proofs.ListLaws.{All, all_append, Any, any-blocks}
 use Rattle.meaning.proofs.ListLaws.All.{nil, cons}
 use Rattle.meaning.proofs.RefusalLaws.{Holds, unbroken, Known, first_numbered, broken-known}
@@ -86,7 +88,7 @@ text-known : (f : Format) (s : BlockSet) → is_good (set_rule f s) ≡ false �
 unfolding set_rule text_rule text_rules no_refusal is_good
 text-known f s e =
     by_test (is_comment s.first)
-    (λ c. absurd (false_not_true (sym (rw c at e))))
+    (λ c. absurd (false≢true (sym (rw c at e))))
     (λ c. rw c (broken-known s.place _ (omega arith) (rw c at e)))
 
 -- what follows a test of rules
@@ -147,7 +149,7 @@ module _ (f : Format) (place : ℕ) (b : List ℕ) where
       (λ t.
       last_fits _ _ _
       (λ n.
-      let o = ⊎_elim (λ z. eqb-true (header_of b).ebn 0 z) (λ z. absurd (n (eqb-true (header_of b).ebn 255 z))) (or_parts _ _ (unbroken _ _ _ _ _ t).0) in
+      let o = ⊎_elim (λ z. eqb-true (header_of b).ebn 0 z) (λ z. absurd (n (eqb-true (header_of b).ebn 255 z))) (or_cases _ _ (unbroken _ _ _ _ _ t).0) in
       record { size = omega (arith, text-short b); last = omega (arith, o); few = omega (arith, o) }))
       (λ t. tt)
 
@@ -159,7 +161,7 @@ module _ (f : Format) (place : ℕ) (b : List ℕ) where
       last_fits _ _ _
       (λ n.
       let o : (eqb (header_of b).ebn (suc s.last) ≡ true) × (ltb (header_of b).ebn 240 ≡ true) =
-      ⊎_elim (λ z. absurd (n (eqb-true (header_of b).ebn 255 z))) (λ z. and_parts _ _ z) (or_parts _ _ (unbroken _ _ _ _ _ t).0)
+      ⊎_elim (λ z. absurd (n (eqb-true (header_of b).ebn 255 z))) (λ z. and_parts _ _ z) (or_cases _ _ (unbroken _ _ _ _ _ t).0)
       in
       let next = eqb-true (header_of b).ebn (suc s.last) o.0 in
       record {
@@ -192,7 +194,7 @@ module _ {A : Type 0} (f : Format) (rule : BlockSet → Refusal) (add : BlockSet
   judge-within n c x (pending a) t h = record { counts = t; fits = h }
   judge-within n c x (closed s a) t h =
       by_test (is_good (rule s))
-      (λ g. rw (g, judge) (record { counts = t; fits = λ q z. absurd (none_not_some (sym h ∙ z)) }))
+      (λ g. rw (g, judge) (record { counts = t; fits = λ q z. absurd (none-ne-some _ (sym h ∙ z)) }))
       (λ g. rw (g, judge) tt)
 
   pub step-within : (k : ℕ) (o : Outcome A) (b : List ℕ) → Unit {0} → WithinIf k o → WithinIf (suc k) (step f rule add k o b)
@@ -205,7 +207,7 @@ module _ {A : Type 0} (f : Format) (rule : BlockSet → Refusal) (add : BlockSet
 
   pub start-within : (x : A) → Within 0 (begun x)
   unfolding begun no_blocks total no_counts
-  start-within x = record { counts = refl; fits = λ s g. absurd (none_not_some g) }
+  start-within x = record { counts = refl; fits = λ s g. absurd (none-ne-some _ g) }
 
   pub walk-within : (x : A) (file : List ℕ) (n : ℕ) → WithinIf n (walk f rule add x file n)
   unfolding walk
@@ -295,14 +297,14 @@ module _ (Block : List ℕ → Type 0) (f : Format) where
       (record {
         few = omega arith;
         made = m;
-        ready = record { current = λ q g. absurd (none_not_some (sym e ∙ g)); order = ascends_more 0 ss _ _ o.above (omega (arith, o.below)) };
+        ready = record { current = λ q g. absurd (none-ne-some _ (sym e ∙ g)); order = ascends_more 0 ss _ _ o.above (omega (arith, o.below)) };
       }))
       (λ k.
       rw k
       (record {
         few = simp length-append (omega arith);
         made = all_append m (cons (record { opened = o.opened; subtitle = k; text = s.text; place = s.place; rule = rw k at r; made = refl }) nil);
-        ready = record { current = λ q g. absurd (none_not_some (sym e ∙ g)); order = ascends_last 0 ss _ a.least o.above o.below };
+        ready = record { current = λ q g. absurd (none-ne-some _ (sym e ∙ g)); order = ascends_last 0 ss _ a.least o.above o.below };
       }))
 
   judge-kept :
@@ -330,7 +332,7 @@ module _ (Block : List ℕ → Type 0) (f : Format) where
   start-held : Held 0 (begun [])
   unfolding begun no_blocks
   start-held =
-      record { few = omega arith; made = nil; ready = record { current = λ s g. absurd (none_not_some g); order = omega arith } }
+      record { few = omega arith; made = nil; ready = record { current = λ s g. absurd (none-ne-some _ g); order = omega arith } }
 
   pub walk_kept :
       (file : List ℕ) (n : ℕ) → All Block (blocks n (drop gsi_size file)) → Kept n (finish n (walk f (set_rule f) (with_subtitles f) [] file n))

@@ -50,7 +50,7 @@ fed-ended c [] = refl
 fed-ended c (b ∷ bs) = fed-ended (with_byte c b) bs ∙ byte-ended c b
 
 -- a lump before the close
-feed-fed : (c : Check) (lump : List ℕ) → c.ended ≡ false → feed c lump ≡ fed c lump
+pub feed-fed : (c : Check) (lump : List ℕ) → c.ended ≡ false → feed c lump ≡ fed c lump
 unfolding feed
 feed-fed c lump e = ap (λ (b : Bool). cond b c (fed c lump)) e
 

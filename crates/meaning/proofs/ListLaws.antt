@@ -10,7 +10,8 @@ use mathlib.Core.List.{List, [], ◌∷◌, ◌++◌, map, append_assoc, flat_ma
 use lib.ListN.{length, get_or, take, drop, replicate, length-take, drop_of_length-le}
 use lib.Seq.{drop-cons}
 use Rattle.meaning.specs.Lists.{all, any, take_while}
-use Rattle.meaning.proofs.Logic.{by_test, and_parts, or-none}
+use Rattle.std.proofs.lemmas.Bool.{and_parts, or_parts}
+use Rattle.meaning.proofs.Logic.{by_test}
 
 -- tests over a list, one element at a time
 module _ {A : Type 0} (p : A → Bool) (x : A) (xs : List A) where
@@ -23,7 +24,7 @@ module _ {A : Type 0} (p : A → Bool) (x : A) (xs : List A) where
   any-cons = by_test (p x) (λ e. rw (e, any)) (λ e. rw (e, any))
 
   pub none_split : any p (x ∷ xs) ≡ false → (p x ≡ false) × (any p xs ≡ false)
-  none_split e = or-none (p x) (any p xs) (sym any-cons ∙ e)
+  none_split e = or_parts (p x) (any p xs) (sym any-cons ∙ e)
 
 -- and at the end of a list
 module _ {A : Type 0} (p : A → Bool) where

@@ -141,9 +141,9 @@ sum_of_bits :
     (n a b c i u d p q : ℕ) → n ≡ 64 * a + 8 * p + q → a ≡ 2 * b + d → b ≡ 2 * c + u → c ≡ i → 256 * i + 128 * u + 64 * d + 8 * p + q ≡ n
 sum_of_bits n a b c i u d p q h k l m = omega arith
 
-pub pack-unpack : (n : ℕ) → n < look_count → pack (unpack n) ≡ n
+pub packed_again : (n : ℕ) → n < look_count → pack (unpack n) ≡ n
 unfolding pack unpack
-pack-unpack n h =
+packed_again n h =
     rw (bit_of (n / 256 % 2) (omega arith), bit_of (n / 128 % 2) (omega arith), bit_of (n / 64 % 2) (omega arith))
     (sum_of_bits n (n / 64) (n / 128) (n / 256) _ _ _ _ _ (omega arith) (omega arith) (omega arith) (omega arith))
 

@@ -15,7 +15,8 @@ use Rattle.meaning.specs.declared.Time.{Time}
 use Rattle.meaning.specs.declared.Header.{Header}
 use Rattle.meaning.specs.declared.Format.{Format}
 use Rattle.meaning.specs.Blocks.{time_rules, times_rules, is_comment, subtitle_rules, first_block_rules}
-use Rattle.meaning.proofs.Logic.{by_test, false_not_true}
+use Rattle.std.proofs.lemmas.Bool.{false≢true}
+use Rattle.meaning.proofs.Logic.{by_test}
 
 pub good-number : (r : Refusal) → r.number ≡ 0 → is_good r ≡ true
 unfolding is_good
@@ -33,7 +34,7 @@ Holds place rs = is_good (first_broken place rs) ≡ true
 pub unbroken : (place n o : ℕ) (b : Bool) (rs : List Rule) → Holds place ((suc n, o, b) ∷ rs) → (b ≡ true) × Holds place rs
 unfolding first_broken is_good
 unbroken place n o true rs e = (refl, e)
-unbroken place n o false rs e = absurd (false_not_true (sym (ne_eqb (suc n) 0 (λ z. omega arith)) ∙ e))
+unbroken place n o false rs e = absurd (false≢true (sym (ne_eqb (suc n) 0 (λ z. omega arith)) ∙ e))
 
 -- a refusal of a rule from 1 to 15
 pub record Known (r : Refusal) : Type 0 where
@@ -66,7 +67,7 @@ first_numbered f least h =
 
 pub broken-known : (place : ℕ) (rs : List Rule) → Numbered rs → is_good (first_broken place rs) ≡ false → Known (first_broken place rs)
 unfolding first_broken no_refusal is_good
-broken-known place [] h e = absurd (false_not_true (sym e))
+broken-known place [] h e = absurd (false≢true (sym e))
 broken-known place (r ∷ rs) h e =
     by_test r.2
     (λ t. rw (t, first_broken) (broken-known place rs h.2 (rw (t, first_broken) at e)))
@@ -79,7 +80,7 @@ unbroken-all place [] qs n h = (refl, h)
 unbroken-all place (r ∷ rs) qs n h =
     by_test r.2
     (λ t. rw (t, all) (unbroken-all place rs qs n.2 (rw (t, first_broken) at h)))
-    (λ t. absurd (false_not_true (sym (ne_eqb r.0 0 (λ z. omega (arith, n.0))) ∙ (rw (t, first_broken) at h))))
+    (λ t. absurd (false≢true (sym (ne_eqb r.0 0 (λ z. omega (arith, n.0))) ∙ (rw (t, first_broken) at h))))
 
 -- results in turn nest either way
 pub result_and_assoc : {A : Type 0} (a b : Result Unit Refusal) (c : Result A Refusal) → result_and (result_and a b) c ≡ result_and a (result_and b c)

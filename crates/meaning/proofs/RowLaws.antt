@@ -8,16 +8,17 @@ use Rattle.meaning.specs.declared.Token.TheVariants.{Character, Control, Switch,
 use Rattle.meaning.specs.Lists.{all, onto_first}
 use Rattle.meaning.specs.Codes.{is_row_end}
 use Rattle.meaning.specs.Rows.{split_rows, paired_from, rows_of}
-use Rattle.meaning.proofs.Logic.{by_test, false_not_true}
+use Rattle.std.proofs.lemmas.Bool.{false≢true}
+use Rattle.meaning.proofs.Logic.{by_test}
 use Rattle.meaning.proofs.ListLaws.{all_cons, test-nil}
 
 is-end : (t : Token) → is_row_end t ≡ true → t ≡ RowEnd
 unfolding is_row_end
-is-end (Character p) e = absurd (false_not_true e)
-is-end (Control c) e = absurd (false_not_true e)
-is-end (Switch c) e = absurd (false_not_true e)
+is-end (Character p) e = absurd (false≢true e)
+is-end (Control c) e = absurd (false≢true e)
+is-end (Switch c) e = absurd (false≢true e)
 is-end RowEnd e = refl
-is-end Unlisted e = absurd (false_not_true e)
+is-end Unlisted e = absurd (false≢true e)
 
 module _ (p : Token → Bool) (ends : p RowEnd ≡ true) where
   -- a row end in front changes nothing, and another token the same

@@ -11,7 +11,8 @@ use lib.Seq.{drop-drop}
 use Rattle.meaning.specs.declared.Glyph.{Glyph}
 use Rattle.meaning.specs.Codes.{is_accent, pair_token, character_of, tokens, is_row_end}
 use Rattle.meaning.specs.TextRules.{end_first, first_size, bytes_before}
-use Rattle.meaning.proofs.Logic.{by_test, false_not_true}
+use Rattle.std.proofs.lemmas.Bool.{false≢true}
+use Rattle.meaning.proofs.Logic.{by_test}
 use Rattle.meaning.proofs.Tokens.{tokens_pair}
 
 -- an accent with a code after it takes two bytes
@@ -36,11 +37,11 @@ no_end g = by_test (eqb g.point 0) (λ e. rw e) (λ e. rw e)
 
 pub size-end : (s : List ℕ) → end_first (tokens s) ≡ true → first_size s ≡ 1
 unfolding end_first tokens pair_token
-size-end [] e = absurd (false_not_true e)
+size-end [] e = absurd (false≢true e)
 size-end (c ∷ []) e = size-last c [] refl
 size-end (c ∷ d ∷ cs) e =
     by_test (is_accent c)
-    (λ a. absurd (false_not_true (sym (no_end _) ∙ sym (ap end_first (tokens_pair c d cs a)) ∙ e)))
+    (λ a. absurd (false≢true (sym (no_end _) ∙ sym (ap end_first (tokens_pair c d cs a)) ∙ e)))
     (λ a. size-code c (d ∷ cs) a)
 
 -- the bytes of n tokens, and of m more

@@ -1,6 +1,6 @@
 -- Single codes and accent pairs: document 01, "Text to rows", first paragraph; document 02, request 4. A code point of 0 stands for none.
 -- Assumes nothing.
-use Rattle.std.specs.Prelude.{ℕ, zero, suc, ◌+◌, ◌*◌, ◌-◌, true, false, cond, ◌&&◌, List, [], ◌∷◌, leb, eqb, get_or}
+use Rattle.std.specs.Prelude.{ℕ, zero, suc, ◌+◌, ◌*◌, ◌-◌, true, false, cond, ◌&&◌, List, [], ◌∷◌, leb, eqb, get_or, slice_get, Option, None}
 use Rattle.meaning.specs.declared.Glyph.{Glyph}
 use Rattle.meaning.specs.Tables.{latin_table, composed_table}
 use Rattle.meaning.specs.Glyphs.{marks, single}
@@ -27,10 +27,10 @@ composed zero l = 0
 composed (suc a) zero = 0
 composed (suc a) (suc l) = get_or composed_table (52 * a + l) 0
 
--- the mark of an accent, by its number
-unfoldable pub mark_of : ℕ → ℕ
-mark_of zero = 0
-mark_of (suc a) = get_or marks a 0
+-- the mark of an accent, by its number; number 0 has none
+unfoldable pub mark_of : ℕ → Option ℕ
+mark_of zero = None
+mark_of (suc a) = slice_get marks a
 
 -- what a mark stands on where there is no composed letter: the letter, U+00A0 for 20h, nothing for any other code
 unfoldable pub base : ℕ → ℕ

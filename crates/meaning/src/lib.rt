@@ -2,11 +2,12 @@
 
 #![tactic(auto)]
 
-ghost use Rattle.std.specs.Prelude.{◌≡◌, ◌≤◌, eqb};
+ghost use Rattle.std.specs.Prelude.{◌≡◌, eqb};
 ghost use Rattle.meaning.specs.Refusals.{kept};
 ghost use Rattle.meaning.specs.Blocks.{is_comment};
 ghost use Rattle.meaning.specs.Sets.{is_user};
-ghost use Rattle.meaning.specs.Looks.{white_on_black, bit, pack, unpack, shared, free, blend, on_black};
+ghost use Rattle.meaning.specs.Glyphs.{single};
+ghost use Rattle.meaning.specs.Looks.{white_on_black, pack, unpack, shared, free, blend, on_black};
 ghost use Rattle.meaning.specs.Rows.{is_paired, lines_of};
 
 // The bytes of the GSI block, of a TTI block's header and text, and of a TTI block.
@@ -23,8 +24,9 @@ pub const ROW_LIMIT: usize = 64;
 
 // The rule that a file breaks, the block, and the offset: from the start of the file in the rules 1 to 6, of the block in 7 to 12,
 // of the set's text in 13 to 15; 0 in 16. A set open at the end has the block count for its block, and offset 0 there: the file ends
-// at that place. Number 0 at place 0: no rule is broken.
-#[derive(Clone, Copy, PartialEq, Eq)]
+// at that place. Number 0 at place 0: no rule is broken. A rule goes by its number, as document 01 counts them: the answer, the
+// promise `Told` and callers in C get it.
+#[derive(Clone, Copy, Default, PartialEq, Eq)]
 pub struct Refusal {
     pub number: u64,
     pub place: u64,
@@ -32,6 +34,7 @@ pub struct Refusal {
 }
 
 impl Refusal {
+    // No Option: the walk's definitions and `Reasons.reason` have number 0 where no rule is broken, and callers in C get it so.
     pub const NONE: Refusal = Refusal {
         number: 0,
         place: 0,
@@ -77,7 +80,7 @@ impl From<Reason> for [u64; 5] {
     }
 }
 
-// What comes back from a conversion, in document 01's order.
+// What comes back from a conversion, in document 01's order. Numbers, as callers in C get them: an accepted file has number 0.
 #[derive(Clone, Copy, Default, PartialEq, Eq)]
 pub struct Answer {
     pub number: u64,
@@ -129,7 +132,7 @@ pub struct Time {
     pub frames: u8,
 }
 
-// The header fields of a TTI block.
+// The header fields of a TTI block, each as its bytes say: the rules judge them.
 #[derive(Clone, Copy, Default, PartialEq, Eq)]
 pub struct Header {
     pub sgn: u8,
@@ -187,7 +190,7 @@ pub struct Screen {
 }
 
 // How a file is read: the break mode, the frames of a second, the screen, and whether it is for teletext or has open
-// subtitles.
+// subtitles. The mode is a number, for `Gsi.format_of` takes any.
 #[derive(Clone, Copy, PartialEq, Eq)]
 pub struct Format {
     pub mode: u64,
@@ -205,14 +208,25 @@ impl Format {
     }
 }
 
-// The character of a cell: a code point, and the combining mark on it, 0 where there is none.
+// The character of a cell: a code point, and the combining mark on it, if there is one.
 #[derive(Clone, Copy, PartialEq, Eq)]
 pub struct Glyph {
     pub point: u16,
-    pub mark: u16,
+    pub mark: Option<u16>,
 }
 
-// What one code of a text, or an accent with the code after it, stands for.
+impl Glyph {
+    // With no mark.
+    #[tactic(auto, unfolding(crate::specs::Glyphs::single))]
+    pub fn single(point: u16) -> Glyph
+        ensures { result ≡ single point }
+    {
+        Glyph { point, mark: None }
+    }
+}
+
+// What one code of a text, or an accent with the code after it, stands for. A control and a switch go by their code, as in
+// `Codes.is_control_of` and `Cells.control_here`.
 #[derive(Clone, Copy, PartialEq, Eq)]
 pub enum Token {
     Character(Glyph),
@@ -260,11 +274,13 @@ impl Look {
         }
     }
 
+    // This and `unpack` have the names of the definitions. No `From`: `unpack` takes any number and loses its higher bits. A packed
+    // look is a plain u16: the number names its style (`Document.style_name`), and `PackedCell.look` may be any.
     #[tactic(auto, unfolding(crate::specs::Looks::pack))]
     pub fn pack(self) -> u16
         ensures { result ≡ pack self }
     {
-        let colours = 8 * (self.background as u16) + self.colour as u16;
+        let colours = 8 * u16::from(self.background) + u16::from(self.colour);
         256 * u16::from(self.italics)
             + 128 * u16::from(self.underline)
             + 64 * u16::from(self.double)
@@ -283,7 +299,8 @@ impl Look {
         }
     }
 
-    // Whether two looks are equal in what the cells of a span share.
+    // Whether two looks are equal in what the cells of a span share, as `shared` defines it: no derive compares parts.
+    #[tactic(auto, using(crate::proofs::LookLaws::shares_by))]
     pub fn shares(self, other: Look) -> bool
         ensures { result ≡ eqb (shared self) (shared other) }
     {
@@ -292,7 +309,8 @@ impl Look {
             & (self.background == other.background)
     }
 
-    // Whether two looks are equal in what a blank leaves open.
+    // Whether two looks are equal in what a blank leaves open, as `free` defines it.
+    #[tactic(auto, using(crate::proofs::LookLaws::agrees_by))]
     pub fn agrees(self, other: Look) -> bool
         ensures { result ≡ eqb (free self) (free other) }
     {
@@ -329,10 +347,11 @@ pub struct Lines(pub u64);
 
 impl Rows {
     // The lines that the rows cover: a double row covers two.
+    #[tactic(auto, unfolding(crate::specs::Rows::lines_of))]
     pub fn lines(self, double: bool) -> Lines
         ensures { result ≡ lines_of double self }
     {
-        let n = self.0 as u64;
+        let n = u64::from(self.0);
         if double { Lines(2 * n) } else { Lines(n) }
     }
 }

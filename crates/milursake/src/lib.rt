@@ -12,14 +12,6 @@ ghost use Rattle.meaning.specs.Reasons.{reason, reason_numbers};
 ghost use Rattle.store.specs.Stores.{check_of};
 ghost use Rattle.streamed.specs.Checks.{opened_in, fed_in, closed_in, answer_in, is_running, opened_store, store_closed};
 
-// As many of some numbers as there is room for.
-fn put_numbers(numbers: &mut [u64], values: &[u64])
-    ensures { numbers.new ≡ stored numbers.old 0 values.now }
-{
-    let n = numbers.len().min(values.len());
-    numbers[..n].copy_from_slice(&values[..n]);
-}
-
 // For callers in C and Rust: the refusal's number, or 0. As much of the answer as `numbers` has room for is stored there.
 #[unsafe(no_mangle)]
 pub extern "C" fn milursake_convert(
@@ -34,7 +26,7 @@ pub extern "C" fn milursake_convert(
     ensures fewest { result ≡ 0 → FewestSpans mode file.now (answer mode file.now (length out.old)) out.new }
 {
     let a = convert::convert(file, mode, out);
-    put_numbers(numbers, &<[u64; 8]>::from(a));
+    output::put_at(numbers, 0, &<[u64; 8]>::from(a));
     a.number
 }
 
@@ -47,7 +39,7 @@ pub extern "C" fn milursake_explain(file: &[u8], mode: u64, room: u64, numbers: 
     ensures told { Told mode file.now room (reason mode file.now room) }
 {
     let r = explain::explain(file, mode, room as usize);
-    put_numbers(numbers, &<[u64; 5]>::from(r));
+    output::put_at(numbers, 0, &<[u64; 5]>::from(r));
     r.number
 }
 
@@ -78,6 +70,6 @@ pub extern "C" fn milursake_check_close(store: &mut [u8], numbers: &mut [u64]) -
     ensures store { store.new ≡ store_closed store.old }
 {
     let a = streamed::close_check(store);
-    put_numbers(numbers, &<[u64; 8]>::from(a));
+    output::put_at(numbers, 0, &<[u64; 8]>::from(a));
     a.number
 }

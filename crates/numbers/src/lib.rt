@@ -1,4 +1,5 @@
-// Numbers in decimal digits, laid over a lent buffer. A digit is told by subtracting its unit, but in put_digits3.
+// Numbers in decimal digits, laid over a lent buffer. A digit is told by subtracting its unit, but in put_digits3: the processor that
+// this is for has no divide. So no `Display` and no `format!`, which tell digits by dividing.
 
 #![tactic(auto)]
 
@@ -91,7 +92,8 @@ fn digit(n: usize) -> u8
     (48 + n % 10) as u8
 }
 
-// It divides, and no part of it is shared with put_digits2: it takes any number, and the subtraction above a u16.
+// For a look's number, which put_digits2 has no digits for. It divides: it promises the last three digits of any usize, and what
+// subtracts takes a number below ten times its first unit. A narrower parameter would ask more of callers.
 pub fn put_digits3(w: &mut Writer, n: usize)
     ensures { Put w.old (digits 3 n) w.new }
 {

@@ -5,43 +5,64 @@ use mathlib.Core.List.{List, [], ◌∷◌, ◌++◌, append-nil, append_assoc, 
 use Prim.Native.Nat.{ℕ, suc, ◌+◌, ◌-◌, ◌<◌, ◌≤◌, ◌^◌, min}
 use native.Mathlib.Nat.{add-zero, add-suc, suc-add}
 use native.Mathlib.Omega.{arith}
-use lib.ListN.{length, set, take, drop, get_or, length-append, length-set, drop_of_length-le, take-append-drop}
-use lib.Seq.{set_out, length-sets, sets-eq, drop-cons, drop-drop, length-take-le}
+use lib.ListN.{length, set, take, drop, get_or, length-append, length-set, take-append-drop}
+use lib.Seq.{set_out, length-sets, sets-eq, drop-cons, drop-drop, length-take-le, take_all}
+use Rattle.std.proofs.lemmas.List.{drop_min}
 use Rattle.meaning.proofs.Logic.{by_le}
 use Rattle.meaning.proofs.ListLaws.{join_append}
 use Rattle.output.specs.declared.Writer.{Writer}
 use Rattle.output.specs.Output.{stored, past, Wrote, Put}
 
-pub length-stored : (buf : List ℕ) (at : ℕ) (xs : List ℕ) → length (stored buf at xs) ≡ length buf
-unfolding stored
-length-stored buf at xs = length-sets buf at xs
+module _ {A : Type 0} where
+  pub length-stored : (buf : List A) (at : ℕ) (xs : List A) → length (stored buf at xs) ≡ length buf
+  unfolding stored
+  length-stored buf at xs = length-sets buf at xs
 
--- past the end nothing is stored
-pub stored-out : (buf : List ℕ) (at : ℕ) (xs : List ℕ) → length buf ≤ at → stored buf at xs ≡ buf
-unfolding stored
-stored-out buf at [] h = refl
-stored-out buf at (x ∷ xs) h =
-    stored-out (set buf at x) (suc at) xs (omega (arith, length-set buf at x)) ∙ set_out buf at x h
+  -- past the end nothing is stored
+  pub stored-out : (buf : List A) (at : ℕ) (xs : List A) → length buf ≤ at → stored buf at xs ≡ buf
+  unfolding stored
+  stored-out buf at [] h = refl
+  stored-out buf at (x ∷ xs) h =
+      stored-out (set buf at x) (suc at) xs (omega (arith, length-set buf at x)) ∙ set_out buf at x h
 
-pub stored-append : (buf : List ℕ) (at : ℕ) (xs ys : List ℕ) → stored buf at (xs ++ ys) ≡ stored (stored buf at xs) (at + length xs) ys
-unfolding stored
-stored-append buf at [] ys = rw add-zero
-stored-append buf at (x ∷ xs) ys = rw (stored-append (set buf at x) (suc at) xs ys, suc-add, add-suc)
+  pub stored-append : (buf : List A) (at : ℕ) (xs ys : List A) → stored buf at (xs ++ ys) ≡ stored (stored buf at xs) (at + length xs) ys
+  unfolding stored
+  stored-append buf at [] ys = rw add-zero
+  stored-append buf at (x ∷ xs) ys = rw (stored-append (set buf at x) (suc at) xs ys, suc-add, add-suc)
 
--- one byte of a run is stored, and the rest from the next index on
-pub stored_next : (buf : List ℕ) (at : ℕ) (xs : List ℕ) (j : ℕ) → j < length xs
-    → stored (set buf (at + j) (get_or xs j 0)) (at + (j + 1)) (drop (j + 1) xs) ≡ stored buf (at + j) (drop j xs)
-unfolding stored
-stored_next buf at xs j h =
-    let e : at + (j + 1) ≡ suc (at + j) = omega arith in
-    let k : j + 1 ≡ suc j = omega arith in
-    rw (drop-cons xs j 0, e, k)
+  -- one value of a run is stored, and the rest from the next index on
+  pub stored_next : (buf : List A) (at : ℕ) (xs : List A) (j : ℕ) (z : A) → j < length xs
+      → stored (set buf (at + j) (get_or xs j z)) (at + (j + 1)) (drop (j + 1) xs) ≡ stored buf (at + j) (drop j xs)
+  unfolding stored
+  stored_next buf at xs j z h =
+      let e : at + (j + 1) ≡ suc (at + j) = omega arith in
+      let k : j + 1 ≡ suc j = omega arith in
+      rw (drop-cons xs j z, e, k)
 
--- after as many bytes as fit, the others change nothing
-pub stored_cut : (buf : List ℕ) (at : ℕ) (xs : List ℕ) (n : ℕ) → n ≡ min (length xs) (length buf - at) → stored buf (at + n) (drop n xs) ≡ buf
-unfolding stored
-stored_cut buf at xs n e =
-    by_le (length xs) n (λ p. rw drop_of_length-le) (λ p. stored-out buf (at + n) (drop n xs) (omega arith))
+  -- of what is stored only as many count as there are places for
+  pub stored-cut : (buf : List A) (at n : ℕ) (xs : List A) → n ≡ min (length xs) (length buf - at) → stored buf at (take n xs) ≡ stored buf at xs
+  stored-cut buf at n xs e =
+      by_le (length xs) n
+      (λ h. ap (stored buf at) (take_all n xs h))
+      (λ h.
+      let size : length (take n xs) ≡ n = length-take-le n xs (omega arith) in
+      sym
+      (ap (stored buf at) (sym (take-append-drop n xs)) ∙ stored-append buf at (take n xs) (drop n xs)
+      ∙ stored-out (stored buf at (take n xs)) (at + length (take n xs)) (drop n xs) (omega (arith, size, length-stored buf at (take n xs)))))
+
+  -- where there is room, the values stand between what was before and what was after
+  pub stored-fits : (buf : List A) (at : ℕ) (xs : List A) → at + length xs ≤ length buf → stored buf at xs ≡ take at buf ++ xs ++ drop (at + length xs) buf
+  unfolding stored
+  stored-fits buf at xs h = sets-eq xs buf at h
+
+  -- so the values that fit may be copied at once, in the place of a part of the buffer
+  pub stored-copied :
+      (buf : List A) (at : ℕ) (xs : List A) (n k : ℕ) {ys : List A} → at ≤ length buf → n ≡ min (length xs) (length buf - at) → k ≡ n → ys ≡ take n xs
+      → take at buf ++ (ys ++ drop k (drop at buf)) ≡ stored buf at xs
+  stored-copied buf at xs n k e f g h =
+      let size : length (take n xs) ≡ n = length-take-le n xs (omega arith) in
+      rw (g, h, drop-drop)
+      (sym (sym (stored-cut buf at n xs f) ∙ stored-fits buf at (take n xs) (omega (arith, size)) ∙ rw (size, append_assoc)))
 
 -- a position that saturates lies past the end of any buffer, as the sum does
 stored_past : (l : List ℕ) (at n : ℕ) (ys : List ℕ) → length l < 2 ^ 64 → stored l (past at n) ys ≡ stored l (at + n) ys
@@ -75,11 +96,6 @@ pub wrote_nothing : (buf : List ℕ) (at : ℕ) → length buf < 2 ^ 64 → at <
 unfolding stored past
 wrote_nothing buf at h k = record { held = refl; next = omega arith; room = h }
 
--- .. and so it is where something was written
-pub wrote-here : {buf b1 xs : List ℕ} {at r : ℕ} → Wrote buf at xs b1 r → Wrote b1 r [] b1 r
-unfolding past
-wrote-here {b1 = b1} {r = r} w = wrote_nothing b1 r (omega (arith, wrote-length w, w.room)) (omega (arith, w.next))
-
 -- past the end of a buffer only the position counts
 pub wrote-out : (buf : List ℕ) (at : ℕ) (xs : List ℕ) → length buf ≤ at → length buf < 2 ^ 64 → Wrote buf at xs buf (past at (length xs))
 wrote-out buf at xs h k = record { held = sym (stored-out buf at xs h); next = refl; room = k }
@@ -90,40 +106,6 @@ pub wrote-more :
     → Wrote b1 r1 (f x) b2 r2 → Wrote buf at (flat_map f (xs ++ x ∷ [])) b2 r2
 unfolding flat_map
 wrote-more f xs x w v = rw (join_append f xs (x ∷ []), append-nil (f x)) (w ⨟ v)
-
--- what fits is stored, and the rest changes nothing
-stored_part :
-    (buf : List ℕ) (at : ℕ) (xs : List ℕ) (a n : ℕ) → a ≡ min at (length buf) → n ≡ min (length xs) (length buf - a)
-    → stored buf at xs ≡ stored buf a (take n xs)
-stored_part buf at xs a n e f =
-    by_le at (length buf)
-    (λ h.
-    let z : a ≡ at = omega arith in
-    let size : length (take n xs) ≡ n = length-take-le n xs (omega arith) in
-    let rest : stored (stored buf at (take n xs)) (at + n) (drop n xs) ≡ stored buf at (take n xs) =
-    stored_cut (stored buf at (take n xs)) at xs n (rw length-stored (omega arith)) in
-    rw z (ap (stored buf at) (sym (take-append-drop n xs)) ∙ stored-append buf at (take n xs) (drop n xs) ∙ rw size rest))
-    (λ h. stored-out buf at xs (omega arith) ∙ sym (stored-out buf a (take n xs) (omega arith)))
-
--- where there is room, the bytes stand between what was before and what was after
-pub stored-fits : (buf : List ℕ) (at : ℕ) (xs : List ℕ) → at + length xs ≤ length buf → stored buf at xs ≡ take at buf ++ xs ++ drop (at + length xs) buf
-unfolding stored
-stored-fits buf at xs h = sets-eq xs buf at h
-
--- so the bytes that fit may be copied at once, in the place of a part of the buffer
-pub stored-copied :
-    (buf : List ℕ) (at : ℕ) (xs : List ℕ) (a n k : ℕ) {ys : List ℕ} → a ≡ min at (length buf) → n ≡ min (length xs) (length buf - a) → k ≡ n
-    → ys ≡ take n xs → take a buf ++ (ys ++ drop k (drop a buf)) ≡ stored buf at xs
-stored-copied buf at xs a n k e f g h =
-    let size : length (take n xs) ≡ n = length-take-le n xs (omega arith) in
-    rw (g, h, drop-drop)
-    (sym (stored_part buf at xs a n e f ∙ stored-fits buf a (take n xs) (omega (arith, size)) ∙ rw (size, append_assoc)))
-
--- a write from 0 that fits leaves its bytes, and then what stood behind them
-pub wrote-placed : {buf b1 xs : List ℕ} {r : ℕ} → Wrote buf 0 xs b1 r → length xs ≤ length buf → b1 ≡ xs ++ drop (length xs) buf
-wrote-placed {buf} {b1} {xs} w h =
-    let z : 0 + length xs ≡ length xs = omega arith in
-    w.held ∙ stored-fits buf 0 xs (omega arith) ∙ rw z
 
 -- what a writer puts one after the other. Nested to the right as well
 infixr 50 ◌▸◌
@@ -147,3 +129,9 @@ pub put-more :
     {A : Type 0} (f : A → List ℕ) (xs : List A) (x : A) {w w1 w2 : Writer} → Put w (flat_map f xs) w1 → Put w1 (f x) w2
     → Put w (flat_map f (xs ++ x ∷ [])) w2
 put-more f xs x p q = record { wrote = wrote-more f xs x p.wrote q.wrote; same = q.same ∙ p.same }
+
+-- a position that saturates lies past the end of any bytes, as the number does
+pub drop_past : (s : List ℕ) (n : ℕ) → length s < 2 ^ 64 → drop (min n 18446744073709551615) s ≡ drop n s
+drop_past s n h =
+    let e : min (min n 18446744073709551615) (length s) ≡ min n (length s) = omega arith in
+    sym (drop_min (min n 18446744073709551615) s) ∙ rw e (drop_min n s)

@@ -4,9 +4,9 @@ use Rattle.std.specs.Prelude.{◌≡◌, ℕ, ◌+◌, ◌<◌, ◌^◌, min, Li
 use Rattle.std.proofs.lemmas.List.Edits.{sets}
 use Rattle.output.specs.declared.Writer.{Writer}
 
--- a buffer with bytes stored one by one from an index on; those past its end are cut
-unfoldable pub stored : List ℕ → ℕ → List ℕ → List ℕ
-stored buf at xs = sets buf at xs
+-- an array with values stored one by one from an index on; those past its end are cut
+unfoldable pub stored : {A : Type 0} → List A → ℕ → List A → List A
+stored array at xs = sets array at xs
 
 -- n past a position, and never above the largest usize
 unfoldable pub past : ℕ → ℕ → ℕ

@@ -4,9 +4,10 @@
 #![tactic(auto)]
 
 ghost use Rattle.std.specs.Prelude.{◌≡◌, [], ◌∷◌, ◌-◌, min};
-ghost use Rattle.output.specs.Output.{past};
+ghost use Rattle.output.specs.Output.{past, stored};
 
-// The position n past another; it stays at the largest number. Every length and count of bytes or spans is added up by it.
+// The position n past another; it stays at the largest number. Every position of a document, and its number of spans, is
+// added up by it.
 #[tactic(auto, unfolding(crate::specs::Output::past))]
 pub fn after(at: usize, n: usize) -> usize
     ensures { result ≡ past at n }
@@ -14,6 +15,7 @@ pub fn after(at: usize, n: usize) -> usize
     at.saturating_add(n)
 }
 
+// No crate calls it. It stays for its promise: the edits `least_is_first` and `least_is_greatest` are refused of it.
 pub fn least(a: usize, b: usize) -> usize
     ensures { result ≡ min a b }
 {
@@ -25,6 +27,22 @@ pub fn fitting(size: usize, at: usize, n: usize) -> usize
     ensures { result ≡ min n (size - at) }
 {
     n.min(size.saturating_sub(at))
+}
+
+// Values copied into an array from an index on; those past its end are cut. Where all fit, as many are copied as the slice has:
+// in a caller with a literal that number is known, and they are stored with no loop and no call.
+#[inline(always)]
+pub fn put_at<T: Copy>(array: &mut [T], at: usize, values: &[T])
+    ensures { array.new ≡ stored array.old at values.now }
+{
+    if at < array.len() {
+        let room = array.len() - at;
+        if values.len() <= room {
+            array[at..at + values.len()].copy_from_slice(values);
+        } else {
+            array[at..at + room].copy_from_slice(&values[..room]);
+        }
+    }
 }
 
 // A lent buffer, and the position of the next byte in it.
@@ -45,22 +63,22 @@ impl<'a> Writer<'a> {
         Writer { out, at: 0 }
     }
 
-    // The bytes that fit are counted once, before they are copied.
+    #[inline(always)]
     pub fn put(&mut self, bytes: &[u8])
         ensures { Put self.old bytes.now self.new }
     {
-        let from = self.at.min(self.out.len());
-        let n = fitting(self.out.len(), from, bytes.len());
-        self.out[from..from + n].copy_from_slice(&bytes[..n]);
+        put_at(self.out, self.at, bytes);
         self.at = after(self.at, bytes.len());
     }
 
+    // By the index, as nothing is known of what is stored through `get_mut`. A byte by itself, as most are, needs no slice.
     pub fn put_byte(&mut self, b: u8)
         ensures { Put self.old (b ∷ []) self.new }
     {
-        if self.at < self.out.len() {
-            self.out[self.at] = b;
+        let at = self.at;
+        if at < self.out.len() {
+            self.out[at] = b;
         }
-        self.at = after(self.at, 1);
+        self.at = after(at, 1);
     }
 }

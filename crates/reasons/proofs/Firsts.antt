@@ -14,7 +14,7 @@ use Rattle.meaning.specs.Lists.{all}
 use Rattle.meaning.specs.Codes.{is_listed}
 use Rattle.meaning.specs.Rows.{lines_of, row_count, is_short}
 use Rattle.meaning.specs.TextRules.{before_fault, breaks_codes, breaks_rows}
-use Rattle.meaning.proofs.Logic.{or-none}
+use Rattle.std.proofs.lemmas.Bool.{or_parts}
 use Rattle.meaning.proofs.ListLaws.{test-nil, test-cons}
 use Rattle.reasons.specs.Faults.{First}
 use Rattle.reasons.specs.Faults.First.{here, later}
@@ -50,7 +50,7 @@ module _ (f : Format) (vp : ℕ) (double : Bool) where
   pub sound-short : (before rs : List (List Token)) → Sound (breaks_rows f vp double) before rs → all is_short rs ≡ true
   unfolding breaks_rows
   sound-short before [] h = test-nil is_short
-  sound-short before (r ∷ rs) h = test-cons _ r rs (not-false _ (or-none _ _ h.0).0) (sound-short (r ∷ before) rs h.1)
+  sound-short before (r ∷ rs) h = test-cons _ r rs (not-false _ (or_parts _ _ h.0).0) (sound-short (r ∷ before) rs h.1)
 
   pub sound_lines :
       (before : List (List Token)) (r : List Token) (rs : List (List Token)) → Sound (breaks_rows f vp double) before (r ∷ rs)
@@ -58,7 +58,7 @@ module _ (f : Format) (vp : ℕ) (double : Bool) where
   unfolding breaks_rows row_count
   sound_lines before r [] h =
       let z : length before + 1 ≡ suc (length before) = omega arith in
-      rw z (ltb-false _ _ (or-none (not (is_short r)) _ h.0).1)
+      rw z (ltb-false _ _ (or_parts (not (is_short r)) _ h.0).1)
   sound_lines before r (q ∷ rs) h =
       let z : length before + suc (suc (length rs)) ≡ suc (length before) + suc (length rs) = omega arith in
       rw z (sound_lines (r ∷ before) q rs h.1)

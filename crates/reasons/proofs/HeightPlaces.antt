@@ -11,7 +11,8 @@ use Rattle.meaning.specs.Lists.{all, any}
 use Rattle.meaning.specs.Codes.{is_character, is_row_end, is_double_height}
 use Rattle.meaning.specs.Rows.{split_rows, first_row, is_double, breaks_paired, rows_of, rows, height_first, even_from, heights_right}
 use Rattle.meaning.specs.TextRules.{misplaced_height, odd_ends, end_first, breaks_heights}
-use Rattle.meaning.proofs.Logic.{by_test, and_parts, or-none, or_second, false_not_true}
+use Rattle.std.proofs.lemmas.Bool.{and_parts, false≢true, or_parts}
+use Rattle.meaning.proofs.Logic.{by_test, or_second}
 use Rattle.meaning.proofs.ListLaws.{any-cons}
 use Rattle.meaning.proofs.RowClauses.{split_end, split_more, odd_end, odd_more, even-end, even-more, even_odd}
 use Rattle.reasons.proofs.Firsts.{Sound}
@@ -33,7 +34,7 @@ none_behind before (t ∷ ts) h =
     by_test (is_row_end t)
     (λ e. (rw (end_no_height t e), none_behind (t ∷ before) ts (rw (split_end t ts e) at h)))
     (λ e.
-    let n = or-none (is_double_height t) _ (sym (onto_any t (split_rows ts)) ∙ rw (split_more t ts e) at h) in
+    let n = or_parts (is_double_height t) _ (sym (onto_any t (split_rows ts)) ∙ rw (split_more t ts e) at h) in
     (rw n.0, none_behind (t ∷ before) ts n.1))
 
 later-pass : (before ts : List Token) → any is_row_end before ≡ false → any (any is_double_height) (tail (split_rows ts)) ≡ false → Sound behind_end before ts
@@ -56,7 +57,7 @@ run_odd odd (t ∷ ts) h =
     (λ e. odd_more t ts e ∙ sym (none_open odd e h))
   where
     none_open : (odd : Bool) → is_row_end t ≡ false → even_from odd (t ∷ ts) ≡ true → odd ≡ false
-    none_open true e h = absurd (false_not_true (sym (even_odd t ts e) ∙ h))
+    none_open true e h = absurd (false≢true (sym (even_odd t ts e) ∙ h))
     none_open false e h = refl
 
 runs_pass : (odd : Bool) (before ts : List Token) → (end_first before ≡ false → odd ≡ false) → even_from odd ts ≡ true → Sound odd_run before ts
@@ -65,7 +66,7 @@ runs_pass odd before [] n h = tt
 runs_pass odd before (t ∷ ts) n h = (
   by_test (end_first before) (λ e. rw e) (λ e. rw e (run_odd odd (t ∷ ts) h ∙ n e)),
   by_test (is_row_end t)
-      (λ e. runs_pass (not odd) (t ∷ before) ts (λ z. absurd (false_not_true (sym z ∙ e))) (rw (even-end t ts odd e) at h))
+      (λ e. runs_pass (not odd) (t ∷ before) ts (λ z. absurd (false≢true (sym z ∙ e))) (rw (even-end t ts odd e) at h))
       (λ e. runs_pass false (t ∷ before) ts (λ z. refl) (rw (sym (run_odd odd (t ∷ ts) h) ∙ odd_more t ts e, even-more t ts e) at h)),
 )
 

@@ -10,7 +10,8 @@ use Rattle.meaning.specs.Lists.{any, onto_first}
 use Rattle.meaning.specs.Codes.{is_row_end, is_double_height}
 use Rattle.meaning.specs.Rows.{split_rows, is_double, breaks_paired, rows_of, even_from, heights_right}
 use Rattle.meaning.specs.TextRules.{misplaced_height, odd_ends, end_first, breaks_heights}
-use Rattle.meaning.proofs.Logic.{by_test, and_true as both_true, or-none, or_true_right}
+use Rattle.std.proofs.lemmas.Bool.{and_from as both_true, or_parts, or_right}
+use Rattle.meaning.proofs.Logic.{by_test}
 use Rattle.meaning.proofs.ListLaws.{any-cons}
 use Rattle.meaning.proofs.RowClauses.{split_end, split_more, odd_end, odd_more, even-end, even-more}
 use Rattle.reasons.proofs.Firsts.{Sound}
@@ -34,7 +35,7 @@ module _ (double paired : Bool) where
   unfolding split_rows any
   none-later before [] d r h = refl
   none-later before (t ∷ ts) d r h =
-      let more = none-later (t ∷ before) ts d (any-cons is_row_end t before ∙ or_true_right (is_row_end t) _ r) h.1 in
+      let more = none-later (t ∷ before) ts d (any-cons is_row_end t before ∙ or_right (is_row_end t) _ r) h.1 in
       by_test (is_row_end t)
       (λ e. rw (split_end t ts e) more)
       (λ e. rw (split_more t ts e, onto_any t (split_rows ts), (known-height double before t (height-right double paired before t ts h.0)).1 d r) more)
@@ -51,7 +52,7 @@ module _ (double paired : Bool) where
   run-right : (before ts : List Token) → paired ≡ true → end_first before ≡ false → Right double paired before ts → odd_ends ts ≡ false
   unfolding breaks_heights odd_ends
   run-right before [] p e h = refl
-  run-right before (t ∷ ts) p e h = rw (p, e) at (or-none (misplaced_height double before t) _ h.0).1
+  run-right before (t ∷ ts) p e h = rw (p, e) at (or_parts (misplaced_height double before t) _ h.0).1
 
   ends-right : (odd : Bool) (before ts : List Token) → paired ≡ true → Right double paired before ts → odd_ends ts ≡ odd → even_from odd ts ≡ true
   unfolding even_from end_first odd_ends

@@ -14,7 +14,8 @@ use Rattle.meaning.specs.Lists.{all}
 use Rattle.meaning.specs.Codes.{tokens, is_listed}
 use Rattle.meaning.specs.Rows.{is_double, rows, lines_of, row_count, is_short, rows_fit}
 use Rattle.meaning.specs.TextRules.{before_fault, breaks_codes, breaks_rows}
-use Rattle.meaning.proofs.Logic.{by_test, and_parts}
+use Rattle.std.proofs.lemmas.Bool.{and_parts}
+use Rattle.meaning.proofs.Logic.{by_test}
 use Rattle.meaning.proofs.ListLaws.{test_split}
 use Rattle.reasons.specs.Faults.{ToldByPlaces}
 use Rattle.reasons.proofs.Firsts.{Sound, sound-codes}

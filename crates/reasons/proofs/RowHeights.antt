@@ -9,7 +9,8 @@ use Rattle.meaning.specs.Lists.{all, any, take_while, onto_first}
 use Rattle.meaning.specs.Codes.{is_character, is_row_end, is_double_height}
 use Rattle.meaning.specs.Rows.{split_rows, first_row, paired_from, rows_of, height_first}
 use Rattle.meaning.specs.TextRules.{misplaced_height, breaks_heights}
-use Rattle.meaning.proofs.Logic.{by_test, or-none, false_not_true}
+use Rattle.std.proofs.lemmas.Bool.{false≢true, or_parts}
+use Rattle.meaning.proofs.Logic.{by_test}
 use Rattle.meaning.proofs.ListLaws.{all_cons, any-cons, test-nil}
 use Rattle.meaning.proofs.RowClauses.{first-end, first_more, split_end, split_more, pair_first, pair_second, pair_none}
 use Rattle.reasons.proofs.Firsts.{Sound}
@@ -71,8 +72,8 @@ unfolding misplaced_height
 known-height double before t e =
     by_test (is_double_height t)
     (λ d.
-    let n = or-none (any is_character (first_row before)) _ (rw d at e) in
-    (rw (d, n.0), λ s r. absurd (false_not_true (sym (rw (s, r) at n.1)))))
+    let n = or_parts (any is_character (first_row before)) _ (rw d at e) in
+    (rw (d, n.0), λ s r. absurd (false≢true (sym (rw (s, r) at n.1)))))
     (λ d. (rw (d, and-false (any is_character (first_row before))), λ s r. d))
 
 module _ (double paired : Bool) where
@@ -81,7 +82,7 @@ module _ (double paired : Bool) where
 
   pub height-right : (before : List Token) (t : Token) (ts : List Token) → breaks_heights double paired before t ts ≡ false → misplaced_height double before t ≡ false
   unfolding breaks_heights
-  height-right before t ts h = (or-none (misplaced_height double before t) _ h).0
+  height-right before t ts h = (or_parts (misplaced_height double before t) _ h).0
 
   -- the height codes of each row
   rows_right : (before ts : List Token) → Right before ts → heights_from (any is_character (first_row before)) (split_rows ts) ≡ true
@@ -102,7 +103,7 @@ module _ (double paired : Bool) where
   unfolding split_rows heights_from paired_from
   paired_right second before [] n h = end-front _ []
   paired_right second before (t ∷ ts) n h =
-      let more = paired_right false (t ∷ before) ts (λ z. absurd (false_not_true z)) h.1 in
+      let more = paired_right false (t ∷ before) ts (λ z. absurd (false≢true z)) h.1 in
       by_test (is_row_end t)
       (λ e.
       let none = characters-end before t e in
@@ -120,5 +121,5 @@ module _ (double paired : Bool) where
   unfolding rows_of
   codes-right ts h =
       by_test paired
-      (λ p. rw p (sym (heights-from _) ∙ rw no_characters at (paired_right false [] ts (λ z. absurd (false_not_true z)) h)))
+      (λ p. rw p (sym (heights-from _) ∙ rw no_characters at (paired_right false [] ts (λ z. absurd (false≢true z)) h)))
       (λ p. rw p (sym (heights-from _) ∙ rw no_characters at (rows_right [] ts h)))

@@ -9,7 +9,8 @@ use Rattle.meaning.specs.declared.Token.TheVariants.{Character, Control, Switch,
 use Rattle.meaning.specs.Lists.{all, any}
 use Rattle.meaning.specs.Codes.{is_character, is_row_end, is_control_of, is_double_height}
 use Rattle.meaning.specs.Rows.{split_rows, first_row, paired_from, rows_of, height_first}
-use Rattle.meaning.proofs.Logic.{by_test, and_parts, false_not_true}
+use Rattle.std.proofs.lemmas.Bool.{and_parts, false≢true}
+use Rattle.meaning.proofs.Logic.{by_test}
 use Rattle.meaning.proofs.RowClauses.{split_end, split_more, pair_first, pair_second, pair_none}
 use Rattle.reasons.proofs.Firsts.{Sound}
 use Rattle.reasons.proofs.RowHeights.{heights_from, heights-from, end-front, token-front, no_characters, characters-end, characters-more}
@@ -22,7 +23,7 @@ behind_character before t after = any is_character (first_row before) && is_doub
 pub end_no_height : (t : Token) → is_row_end t ≡ true → is_double_height t ≡ false
 unfolding is_row_end is_control_of
 end_no_height (Character p) e = refl
-end_no_height (Control c) e = absurd (false_not_true e)
+end_no_height (Control c) e = absurd (false≢true e)
 end_no_height (Switch c) e = refl
 end_no_height RowEnd e = refl
 end_no_height Unlisted e = refl
@@ -73,7 +74,7 @@ paired_codes second before (t ∷ ts) n h =
     (λ e.
     let rs = split_rows (paired_from false ts) in
     let p = token-passes before t ts rs e (rw (pair_none t ts e second, split_more t (paired_from false ts) e, token-front (any is_character (first_row before)) t rs) at h) in
-    (p.0, paired_codes false (t ∷ before) ts (λ z. absurd (false_not_true z)) p.1))
+    (p.0, paired_codes false (t ∷ before) ts (λ z. absurd (false≢true z)) p.1))
 
 pub codes-first : (paired : Bool) (ts : List Token) → all height_first (rows_of paired ts) ≡ true → Sound behind_character [] ts
 unfolding rows_of

@@ -11,7 +11,8 @@ use Rattle.meaning.specs.Lists.{take_while, onto_first}
 use Rattle.meaning.specs.Codes.{is_row_end}
 use Rattle.meaning.specs.Rows.{split_rows, first_row, paired_from, rows_of, even_from}
 use Rattle.meaning.specs.TextRules.{break_size, tokens_in, tokens_before}
-use Rattle.meaning.proofs.Logic.{by_test, false_not_true}
+use Rattle.std.proofs.lemmas.Bool.{false≢true}
+use Rattle.meaning.proofs.Logic.{by_test}
 use Rattle.meaning.proofs.RowClauses.{first-end, first_more, split_end, split_more, pair_first, pair_second, pair_none, even-end, even-more, even_odd}
 
 -- rows have a first one
@@ -74,12 +75,12 @@ single-size (t ∷ ts) =
 paired_size :
     (second : Bool) (ts : List Token) → even_from second ts ≡ true → tokens_in true (split_rows (paired_from second ts)) + cond second 1 0 ≡ length ts + 2
 unfolding tokens_in split_rows paired_from even_from
-paired_size true [] h = absurd (false_not_true h)
+paired_size true [] h = absurd (false≢true h)
 paired_size false [] h = omega arith
 paired_size true (t ∷ ts) h =
     by_test (is_row_end t)
     (λ e. rw (pair_second t ts e) (omega (arith, paired_size false ts (rw (even-end t ts true e) at h))))
-    (λ e. absurd (false_not_true (sym (even_odd t ts e) ∙ h)))
+    (λ e. absurd (false≢true (sym (even_odd t ts e) ∙ h)))
 paired_size false (t ∷ ts) h =
     by_test (is_row_end t)
     (λ e. rw (pair_first t ts e, split_end t (paired_from true ts) e) (omega (arith, paired_size true ts (rw (even-end t ts false e) at h))))

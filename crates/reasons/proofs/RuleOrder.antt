@@ -15,7 +15,8 @@ use Rattle.meaning.specs.Refusals.{Rule, holds, no_refusal, is_good, first_broke
 use Rattle.meaning.specs.Gsi.{file_rules, file_rule}
 use Rattle.meaning.specs.Blocks.{time_rules, time_in_range, in_frames, times_rules, is_comment, subtitle_rules, first_block_rules}
 use Rattle.meaning.specs.Sets.{agreement_rules}
-use Rattle.meaning.proofs.Logic.{by_test, and_parts, false_not_true, or_true_right}
+use Rattle.std.proofs.lemmas.Bool.{and_parts, false≢true, or_right}
+use Rattle.meaning.proofs.Logic.{by_test}
 use Rattle.meaning.proofs.ListLaws.{test-cons, test_split, any-cons}
 use Rattle.reasons.specs.Faults.{is_broken, holds_before, Lowest}
 
@@ -28,7 +29,7 @@ pub broken_each :
     (P : ℕ → ℕ → Type 0) (place : ℕ) (rs : List Rule) → Each P rs → is_good (first_broken place rs) ≡ false
     → P (first_broken place rs).number (first_broken place rs).offset
 unfolding first_broken no_refusal is_good
-broken_each P place [] h e = absurd (false_not_true (sym e))
+broken_each P place [] h e = absurd (false≢true (sym e))
 broken_each P place (r ∷ rs) h e =
     by_test r.2
     (λ t. rw (t, first_broken) (broken_each P place rs h.1 (rw (t, first_broken) at e)))
@@ -36,7 +37,7 @@ broken_each P place (r ∷ rs) h e =
 
 pub broken-place : (place : ℕ) (rs : List Rule) → is_good (first_broken place rs) ≡ false → (first_broken place rs).place ≡ place
 unfolding first_broken no_refusal is_good
-broken-place place [] e = absurd (false_not_true (sym e))
+broken-place place [] e = absurd (false≢true (sym e))
 broken-place place (r ∷ rs) e =
     by_test r.2 (λ t. rw (t, first_broken) (broken-place place rs (rw (t, first_broken) at e))) (λ t. rw (t, first_broken))
 
@@ -46,7 +47,7 @@ Ordered [] = Unit {0}
 Ordered (r ∷ rs) = (r.2 ≡ false → all (holds_before r.0 r.1) rs ≡ true) × Ordered rs
 
 any-later : (p : Rule → Bool) (r : Rule) (rs : List Rule) → any p rs ≡ true → any p (r ∷ rs) ≡ true
-any-later p r rs h = any-cons p r rs ∙ or_true_right (p r) (any p rs) h
+any-later p r rs h = any-cons p r rs ∙ or_right (p r) (any p rs) h
 
 held-before : (m q n o : ℕ) → holds_before m q (n, o, true) ≡ true
 unfolding holds_before
@@ -72,7 +73,7 @@ ordered_lowest :
     (place : ℕ) (rs : List Rule) → Ordered rs → is_good (first_broken place rs) ≡ false
     → Lowest rs (first_broken place rs).number (first_broken place rs).offset
 unfolding first_broken no_refusal is_good
-ordered_lowest place [] h e = absurd (false_not_true (sym e))
+ordered_lowest place [] h e = absurd (false≢true (sym e))
 ordered_lowest place (r ∷ rs) h e = lowest_more place r.0 r.1 r.2 rs h.0 (ordered_lowest place rs h.1) e
 
 -- rules whose numbers and offsets are in order, as a test
@@ -126,9 +127,9 @@ subtitle_ordered f h =
     let asked = not_asked f.rate h.tci h.tco in
     let range = in_range_lem f.rate h.tco in
     at_once (at_once (at_once (at_once (at_once (at_once
-    (by_itself (λ t. rw (asked (λ r. false_not_true (sym t ∙ (range r).0))))
-    (by_itself (λ t. rw (asked (λ r. false_not_true (sym t ∙ (range r).1))))
-    (by_itself (λ t. rw (asked (λ r. false_not_true (sym t ∙ (range r).2))))
+    (by_itself (λ t. rw (asked (λ r. false≢true (sym t ∙ (range r).0))))
+    (by_itself (λ t. rw (asked (λ r. false≢true (sym t ∙ (range r).1))))
+    (by_itself (λ t. rw (asked (λ r. false≢true (sym t ∙ (range r).2))))
     (at_once (at_once (at_once tt)))))))))))
 
 pub first_lowest :

@@ -20,7 +20,9 @@ use Rattle.meaning.specs.Sets.Event.{broken, pending, closed}
 use Rattle.meaning.specs.Walk.{Progress, Outcome, begun, judge, step, steps, walk}
 use Rattle.meaning.specs.Walk.Outcome.{refused, accepted}
 use Rattle.meaning.specs.Reasons.{text_at}
-use Rattle.meaning.proofs.Logic.{by_test, by_option, and_parts, none_not_some}
+use Rattle.std.proofs.lemmas.Bool.{and_parts}
+use mathlib.Core.Option.{none-ne-some}
+use Rattle.meaning.proofs.Logic.{by_test, by_option}
 use Rattle.meaning.proofs.RefusalLaws.{Holds, unbroken, unbroken-all}
 use Rattle.laws.proofs.Walk.{by_rules}
 use Rattle.laws.proofs.Steps.{walk_more}
@@ -118,7 +120,7 @@ module _ (file : List ℕ) (f : Format) where
     judge-known n c x (broken r) h = tt
     judge-known n c x (pending a) h = h
     judge-known n c x (closed s a) h =
-        by_test (is_good (rule s)) (λ g. rw (g, judge) (λ q z. absurd (none_not_some (sym h.1 ∙ z)))) (λ g. rw (g, judge) tt)
+        by_test (is_good (rule s)) (λ g. rw (g, judge) (λ q z. absurd (none-ne-some _ (sym h.1 ∙ z)))) (λ g. rw (g, judge) tt)
 
     step-known : (k : ℕ) (o : Outcome A) → KnownSo k o → KnownSo (suc k) (step f rule add k o (block_at file k))
     unfolding step
@@ -126,7 +128,7 @@ module _ (file : List ℕ) (f : Format) where
     step-known k (accepted p) h = judge-known (suc k) _ p.gathered _ (advance-known k p.assembly h)
 
     walk-known : (x : A) (n : ℕ) → KnownSo n (walk f rule add x file n)
-    walk-known x zero = unfold walk steps begun no_blocks blocks in (λ s g. absurd (none_not_some g))
+    walk-known x zero = unfold walk steps begun no_blocks blocks in (λ s g. absurd (none-ne-some _ g))
     walk-known x (suc n) = rw (← add-one n, walk_more f rule add x file n, add-one n) (step-known n (walk f rule add x file n) (walk-known x n))
 
     pub walked-known : (x : A) (n : ℕ) (p : Progress A) → walk f rule add x file n ≡ accepted p → KnownIn n p.assembly

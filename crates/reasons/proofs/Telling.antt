@@ -16,7 +16,8 @@ use Rattle.meaning.specs.Walk.Outcome.{refused, accepted}
 use Rattle.meaning.specs.Document.{render}
 use Rattle.meaning.specs.Conversion.{document_of, fits_in, refusal_to, refusal}
 use Rattle.meaning.specs.Reasons.{offset_in, reason_of, reason}
-use Rattle.meaning.proofs.Logic.{by_test, and_parts}
+use Rattle.std.proofs.lemmas.Bool.{and_parts}
+use Rattle.meaning.proofs.Logic.{by_test}
 use Rattle.laws.proofs.Refused.{refusal-answered}
 use Rattle.reasons.specs.Explained.{Told}
 use Rattle.reasons.specs.Explained.Explained.{good, in_file, too_long}

@@ -15,7 +15,8 @@ use Rattle.meaning.specs.Refusals.{is_good, no_refusal, first_broken}
 use Rattle.meaning.specs.Codes.{tokens, is_listed, is_double_height}
 use Rattle.meaning.specs.Rows.{is_double, breaks_paired, rows_of, rows, height_first, even_from, heights_right, lines_of, row_count, is_short, rows_fit}
 use Rattle.meaning.specs.TextRules.{before_fault, breaks_codes, breaks_heights, breaks_rows, code_fault, height_fault, row_fault, text_rules, text_rule}
-use Rattle.meaning.proofs.Logic.{by_test, and_parts, and_true, false_not_true}
+use Rattle.std.proofs.lemmas.Bool.{and_from, and_parts, false≢true}
+use Rattle.meaning.proofs.Logic.{by_test}
 use Rattle.reasons.specs.Faults.{TextFails}
 use Rattle.reasons.specs.Faults.TextFails.{code, height, row}
 use Rattle.reasons.proofs.Firsts.{Sound, Found, found-or-none, sound-codes, sound-short, sound_lines}
@@ -26,7 +27,7 @@ use Rattle.reasons.proofs.RowStarts.{Front, rows-first, rows-size, rows-front, r
 -- what breaks a rule is found, where the rule is not kept
 pub found :
     {A : Type 0} (breaks : List A → A → List A → Bool) (xs : List A) (test : Bool) → (Sound breaks [] xs → test ≡ true) → test ≡ false → Found breaks [] xs
-found breaks xs test kept e = ⊎_elim (λ s. absurd (false_not_true (sym e ∙ kept s))) (λ f. f) (found-or-none breaks [] xs)
+found breaks xs test kept e = ⊎_elim (λ s. absurd (false≢true (sym e ∙ kept s))) (λ f. f) (found-or-none breaks [] xs)
 
 module _ (f : Format) (vp : ℕ) (s : List ℕ) where
   code-fails : all (is_listed f.teletext) (tokens s) ≡ false → TextFails f vp s 13 (code_fault f.teletext s)
@@ -54,7 +55,7 @@ lines_kept f vp double t h =
 pub rows-kept : (f : Format) (vp : ℕ) (ts : List Token) → Sound (breaks_rows f vp (is_double ts)) [] (rows f.mode ts) → rows_fit f vp ts ≡ true
 unfolding rows_fit
 rows-kept f vp ts h =
-    and_true _ _ (sound-short f vp (is_double ts) [] _ h) (le-leb _ _ (lines_kept f vp (is_double ts) (rows-front (breaks_paired f.mode ts) ts) h))
+    and_from _ _ (sound-short f vp (is_double ts) [] _ h) (le-leb _ _ (lines_kept f vp (is_double ts) (rows-front (breaks_paired f.mode ts) ts) h))
 
 -- a first row without bytes fits where the line VP does
 empty-fits : (f : Format) (vp : ℕ) (later : List (List Token)) → vp < f.screen.end → breaks_rows f vp false [] [] later ≡ false
@@ -106,7 +107,7 @@ module _ (f : Format) (vp : ℕ) (line : vp < f.screen.end) where
       by_test (heights_right f.mode (tokens s))
       (λ h.
       by_test (rows_fit f vp (tokens s))
-      (λ r. absurd (false_not_true (sym (rw (l, h, r) at e))))
+      (λ r. absurd (false≢true (sym (rw (l, h, r) at e))))
       (λ r. rw (l, h, r) (row-fails s l h r)))
       (λ h. rw (l, h) (height-fails f vp s l h)))
       (λ l. rw l (code-fails f vp s l))

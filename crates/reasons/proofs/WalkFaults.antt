@@ -20,7 +20,8 @@ use Rattle.meaning.specs.Sets.Event.{broken, pending, closed}
 use Rattle.meaning.specs.Walk.{Subtitle, Progress, Outcome, is_open, finish, judge, step, steps, walk, set_rule, with_subtitles}
 use Rattle.meaning.specs.Walk.Outcome.{refused, accepted}
 use Rattle.meaning.specs.Reasons.{offset_in}
-use Rattle.meaning.proofs.Logic.{by_test, and_parts, false_not_true}
+use Rattle.std.proofs.lemmas.Bool.{and_parts, false≢true}
+use Rattle.meaning.proofs.Logic.{by_test}
 use Rattle.meaning.proofs.RefusalLaws.{unbroken}
 use Rattle.laws.proofs.Steps.{walk_more}
 use Rattle.reasons.specs.Explained.{walk_to, GoodBefore}
@@ -74,7 +75,7 @@ module _ (mode room : ℕ) (file : List ℕ) where
     unfolding set_rule no_refusal is_good
     set-reported bad =
         by_test (is_comment s.first)
-        (λ n. absurd (false_not_true (sym (rw n at bad))))
+        (λ n. absurd (false≢true (sym (rw n at bad))))
         (λ n. rw n (subtitle-reported n (rw n at bad)))
 
   -- an outcome that is a refusal has a reason

@@ -7,12 +7,12 @@ use mathlib.Core.Bool.{Bool, true, false, ◌&&◌}
 use mathlib.Core.List.{List, [], ◌∷◌, map, ◌++◌}
 use Rattle.meaning.specs.declared.Rows.{Rows}
 use Rattle.meaning.specs.declared.Token.{Token}
-use Rattle.meaning.specs.declared.Token.TheVariants.{Character, Control, Switch, RowEnd, Unlisted}
 use Rattle.meaning.specs.Lists.{any, take_while, onto_first}
-use Rattle.meaning.specs.Codes.{is_row_end, is_control_of}
+use Rattle.meaning.specs.Codes.{is_row_end}
 use Rattle.meaning.specs.Rows.{split_rows, first_row, paired_from, rows_of, even_from, lines_of}
 use Rattle.meaning.specs.TextRules.{end_first}
-use Rattle.meaning.proofs.Logic.{by_test, false_not_true}
+use Rattle.std.proofs.lemmas.Bool.{false≢true}
+use Rattle.meaning.proofs.Logic.{by_test}
 pub use Rattle.meaning.proofs.RowClauses.{first-end, first_more}
 use Rattle.meaning.proofs.RowClauses.{split_end, split_more}
 use Rattle.charset.specs.Plain.{plain_token}
@@ -127,7 +127,7 @@ even_second (t ∷ ts) = by_test (is_row_end t) (λ e. rw (e, even_from, row_wit
 
 pub even-ended : (ts : List Token) → is_ended ts ≡ true → even_from false ts ≡ (end_first (after_row ts) && even_from false (row_without_end (after_row ts)))
 unfolding even_from
-even-ended [] h = absurd (false_not_true (sym ended-none ∙ h))
+even-ended [] h = absurd (false≢true (sym ended-none ∙ h))
 even-ended (t ∷ ts) h =
     by_test (is_row_end t)
     (λ e. rw (e, even_from, after-end t ts e) (even_second ts))
@@ -138,26 +138,8 @@ unfolding even_from
 even_open [] h = refl
 even_open (t ∷ ts) h =
     by_test (is_row_end t)
-    (λ e. absurd (false_not_true (sym h ∙ ended-end t ts e)))
+    (λ e. absurd (false≢true (sym h ∙ ended-end t ts e)))
     (λ e. rw (e, even_from) (even_open ts (sym (ended-more t ts e) ∙ h)))
-
--- a token that is no control
-pub no_control : (code : ℕ) (t : Token) → ((c : ℕ) → t ≡ Control c → ⊥) → false ≡ is_control_of code t
-unfolding is_control_of
-no_control code (Character g) h = refl
-no_control code (Control c) h = absurd (h c refl)
-no_control code (Switch c) h = refl
-no_control code RowEnd h = refl
-no_control code Unlisted h = refl
-
--- a token that is no row end
-pub no_row_end : (t : Token) → (t ≡ RowEnd → ⊥) → false ≡ is_row_end t
-unfolding is_row_end
-no_row_end (Character g) h = refl
-no_row_end (Control c) h = refl
-no_row_end (Switch c) h = refl
-no_row_end RowEnd h = absurd (h refl)
-no_row_end Unlisted h = refl
 
 pub lines_le : (double : Bool) (n : Rows) → (lines_of double n).0 ≤ 2 * n.0
 unfolding lines_of

@@ -1,7 +1,9 @@
 pub mod FirstRow
 pub mod Laws
 pub mod RowEnds
+pub mod ReadTo
 pub mod RowLoop
 pub mod TextLoop
 pub mod Gathered
 pub mod Facts
+pub mod Placed

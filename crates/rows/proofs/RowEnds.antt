@@ -11,10 +11,11 @@ use Rattle.std.specs.Option.{is_some, unwrap_or}
 use Rattle.meaning.specs.declared.Token.{Token}
 use Rattle.meaning.specs.Codes.{is_row_end, tokens}
 use Rattle.meaning.specs.TextRules.{end_first}
-use Rattle.meaning.proofs.Logic.{by_test, by_le, false_not_true}
+use Rattle.std.proofs.lemmas.Bool.{false≢true}
+use Rattle.meaning.proofs.Logic.{by_test, by_le}
 use Rattle.charset.specs.declared.Reading.{Reading}
 use Rattle.charset.specs.Reading.{reading_at, token_at, next_at, after_end_at, after_row_at}
-use Rattle.charset.proofs.Positions.{read-over, row-over}
+use Rattle.charset.proofs.Positions.{read_over, row-over}
 use Rattle.charset.proofs.Laws.{ReadOn, RunOn, read_at, tokens-end}
 use Rattle.rows.proofs.FirstRow.{after_row, row_without_end, next_rows}
 use Rattle.rows.specs.Scanned.{is_ended, next_row_at, row_end_after, break_end}
@@ -38,7 +39,7 @@ at-text-end : (s : List ℕ) (i : ℕ) → length s ≤ i → AfterRow s i (afte
 at-text-end s i h =
     let t = tokens-end s i h in
     rw (row-over s i h)
-    (record { rest = t ∙ sym (ap after_row t ∙ after_none); on = λ e. absurd (false_not_true (sym (ap is_ended t ∙ ended-none) ∙ e)); last = λ e k. omega arith })
+    (record { rest = t ∙ sym (ap after_row t ∙ after_none); on = λ e. absurd (false≢true (sym (ap is_ended t ∙ ended-none) ∙ e)); last = λ e k. omega arith })
 
 after-row : (k : ℕ) (s : List ℕ) (i : ℕ) → length s ≤ i + k → AfterRow s i (after_row_at s i)
 after-row zero s i h = at-text-end s i (omega arith)
@@ -48,7 +49,7 @@ after-row (suc k) s i h =
     let o = read_at s i l in
     let ts = tokens (drop (next_at s i) s) in
     by_test (is_row_end (token_at s i))
-    (λ e. rw (row-end o e) (record { rest = sym (ap after_row o.first ∙ after-end (token_at s i) ts e); on = λ z. (o.on, o.within); last = λ z k. absurd (false_not_true (sym z ∙ ap is_ended o.first ∙ ended-end (token_at s i) ts e)) }))
+    (λ e. rw (row-end o e) (record { rest = sym (ap after_row o.first ∙ after-end (token_at s i) ts e); on = λ z. (o.on, o.within); last = λ z k. absurd (false≢true (sym z ∙ ap is_ended o.first ∙ ended-end (token_at s i) ts e)) }))
     (λ e.
     let p = after-row k s (next_at s i) (omega (arith, o.on)) in
     rw (row_more o e)
@@ -127,7 +128,7 @@ not_ended s i e f = by_test (is_ended (tokens (drop i s))) (λ t. let g = end_so
 module _ (s : List ℕ) (i : ℕ) where
   no_token : length s ≤ i → is_row_end (token_at s i) ≡ false
   unfolding is_row_end
-  no_token h = ap (λ (r : Reading). is_row_end r.token) (read-over s i h)
+  no_token h = ap (λ (r : Reading). is_row_end r.token) (read_over s i h)
 
   pub end-first : is_row_end (token_at s i) ≡ end_first (tokens (drop i s))
   unfolding end_first

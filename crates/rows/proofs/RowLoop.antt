@@ -14,7 +14,6 @@ use Rattle.meaning.specs.Lists.{all, any, keep}
 use Rattle.meaning.specs.Rows.{is_double, first_row, height_first}
 use Rattle.meaning.proofs.ListLaws.{any-cons}
 use Rattle.charset.specs.declared.Reading.{Reading}
-use Rattle.charset.specs.Reading.{readings_from}
 use Rattle.charset.proofs.Laws.{ReadOn, RunOn, tokens-end}
 use Rattle.charset.specs.Plain.{plain_token}
 use Rattle.rows.specs.declared.RowFacts.{RowFacts}
@@ -76,18 +75,9 @@ module _ {teletext : Bool} {s : List ℕ} {start i : ℕ} {f : RowFacts} (l : Ro
   pub left_over : length s ≤ i → Scanned teletext s start (record { facts = f; after = None })
   left_over h = record { facts = all_read (ap first_row (tokens-end s i h) ∙ first-none); after = sym (end-over s i h) ∙ l.after }
 
--- the same, with the readings that are left
-pub record RowRest (teletext : Bool) (s : List ℕ) (start : ℕ) (f : RowFacts) (left : List (ℕ × Reading)) : Type 0 where
-  pub at : ℕ
-  pub readings : left ≡ readings_from s at
-  pub row : RowLeft teletext s start f at
-
 -- the rest of the first row from position i tells whether the text is double height
 pub record HeightLeft (s : List ℕ) (i : ℕ) : Type 0 where
   pub height : any is_double_height (first_row (tokens (drop i s))) ≡ is_double (tokens s)
-
-pub height-start : (s : List ℕ) → HeightLeft s 0
-height-start s = record { height = refl }
 
 run-height : (cs : List ℕ) (ts : List Token) → any is_double_height (map plain_token cs ++ ts) ≡ any is_double_height ts
 unfolding any is_control_of

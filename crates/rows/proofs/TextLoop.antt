@@ -3,7 +3,7 @@
 use Prim.Native.Nat.{ℕ, suc, ◌-◌, ◌≤◌, ◌<◌}
 use native.Mathlib.Omega.{arith}
 use mathlib.Core.Path.{◌≡◌, refl, sym, ap, ◌∙◌}
-use mathlib.Core.Bool.{Bool, true, false, cond, not, ◌&&◌, ◌||◌, and-true, and_assoc, or-true}
+use mathlib.Core.Bool.{Bool, true, false, not, ◌&&◌, ◌||◌, and-true, and_assoc, or-true}
 use mathlib.Core.List.{List, [], ◌∷◌, ◌++◌, append-nil}
 use lib.ListN.{length, drop}
 use Rattle.std.specs.Prelude.{Option, Some, None}
@@ -101,8 +101,3 @@ rest_of size (Some next) = suc (size - next)
 pub rest_falls : (s : List ℕ) (start next : ℕ) (r : Option ℕ) → r ≡ row_end_after s start → next ≤ start → rest_of (length s) r < suc (length s - next)
 rest_falls s start next None e h = omega arith
 rest_falls s start next (Some n) e h = let w = ended_at s start e refl in omega (arith, w.on, w.within)
-
--- what is left of the text falls: another row was read, or there is none
-pub less_left : (more : Bool) (n next size : ℕ) → (more ≡ true → (n < next) × (next ≤ size)) → cond more (suc (size - next)) 0 < suc (size - n)
-less_left true n next size h = let k = h refl in omega arith
-less_left false n next size h = omega arith

@@ -1,2 +1,4 @@
 pub mod Scanning
 pub mod Scanned
+pub mod Places
+pub mod PlacesLeft

@@ -27,7 +27,7 @@ use Rattle.sets.specs.declared.Set.{Set}
 use Rattle.sets.specs.declared.Sets.{Sets}
 use Rattle.sets.specs.declared.Step.{Step}
 use Rattle.sets.specs.declared.Step.TheVariants.{NoRoom, Pending}
-use Rattle.sets.specs.Assembling.{set_with, set_of, current_of, assembly_of, event_of, text_end, has_room, size_after, sized_set, sized_current, sized_sets, step_of, step_in, text_after}
+use Rattle.sets.specs.Assembling.{set_with, set_of, current_of, assembly_of, event_of, text_end, has_room, size_after, sized_set, sized_current, sized_sets, step_of, step_in, text_after, Advances}
 
 -- what follows if no rule is broken, as a step
 unless_step : (n : ℕ) (r : Refusal) (e : Event) → step_of n (unless r e) ≡ result_and (verdict r) (step_of n e)
@@ -106,14 +106,14 @@ current-kept (Some s) text part h = rw (front_kept text part s.size h)
 module _ (f : Format) (place : ℕ) (b : List ℕ) (s : Sets) (text : List ℕ) {h : Header} (hd : h ≡ header_of b) {user : Bool} (us : user ≡ is_user h) where
   -- what is promised of a step and of the text buffer
   abbrev Told : Result Step Refusal → List ℕ → Type 0
-  Told r text' = (r ≡ step_in f place b s text) × (text' ≡ text_after b s text)
+  Told = Advances f place b s text
 
   user-is : is_user (header_of b) ≡ user
   user-is = rw (sym hd) (sym us)
 
   pub on-user : user ≡ true → Told (Ok (Pending s)) text
   unfolding step_in size_after text_after has_room advance step_of
-  on-user u = (rw (user-is, u, advance, sized_same s text), rw (user-is, u))
+  on-user u = record { step = rw (user-is, u, advance, sized_same s text); text = rw (user-is, u) }
 
   module _ (n : user ≡ false) {part : List ℕ} (pt : part ≡ block_text b) {at : ℕ} (te : at ≡ text_end s.current) {room : Bool} (hr : room ≡ leb (at + length part) (length text)) where
     other : is_user (header_of b) ≡ false
@@ -124,7 +124,7 @@ module _ (f : Format) (place : ℕ) (b : List ℕ) (s : Sets) (text : List ℕ) 
 
     pub on-full : room ≡ false → Told (Ok NoRoom) text
     unfolding step_in text_after has_room
-    on-full e = (rw (other, room-is, e), rw (other, room-is, e))
+    on-full e = record { step = rw (other, room-is, e); text = rw (other, room-is, e) }
 
     -- the block's text copied into the part of the buffer that it fills
     module _ (fits : room ≡ true) {copied : List ℕ} (q : copied ≡ part) where
@@ -135,7 +135,7 @@ module _ (f : Format) (place : ℕ) (b : List ℕ) (s : Sets) (text : List ℕ) 
       unfolding text_after has_room
       stored-text =
           let low : at + length part ≤ length text = leb-true _ _ (sym hr ∙ fits) in
-          stored-copied text at part at (length part) (at + length part - at) (omega arith) (omega arith) (omega arith) (q ∙ sym (take_all (length part) part (omega arith)))
+          stored-copied text at part (length part) (at + length part - at) (omega arith) (omega arith) (omega arith) (q ∙ sym (take_all (length part) part (omega arith)))
           ∙ rw (other, room-is, fits, sym te, sym pt)
 
       size_is : at + length part ≡ size_after b s
@@ -144,7 +144,7 @@ module _ (f : Format) (place : ℕ) (b : List ℕ) (s : Sets) (text : List ℕ) 
 
       told : (r : Result Step Refusal) → r ≡ step_of (at + length part) (advance f place b (assembly_of s text)) → Told r text'
       unfolding step_in has_room
-      told r g = (g ∙ rw (size_is, other, room-is, fits), stored-text)
+      told r g = record { step = g ∙ rw (size_is, other, room-is, fits); text = stored-text }
 
       pub on-first : s.current ≡ None → (r : Result Step Refusal) → ((t : List ℕ) → r ≡ step_of (at + length part) (opening f place h t s.least)) → Told r text'
       unfolding advance assembly_of current_of
@@ -169,18 +169,18 @@ module _ (f : Format) (place : ℕ) (b : List ℕ) (s : Sets) (text : List ℕ) 
   brought None e l u = rw (u, advance, e) (brought-opening _ _ _ _ _ _ _ (sym (front-joined text (block_text b) 0 l)))
   brought (Some c) e l u = rw (u, advance, e) (brought-continuing _ _ _ _ _ _ _ (sym (front-joined text (block_text b) c.size l)))
 
-  module _ {r : Result Step Refusal} {text' : List ℕ} (t : (r ≡ step_in f place b s text) × (text' ≡ text_after b s text)) where
+  module _ {r : Result Step Refusal} {text' : List ℕ} (t : Advances f place b s text r text') where
     pub step-event : some (advance f place b (assembly_of s text)) ≡ event_of r text'
     unfolding step_in size_after text_after advance step_of event_of
     step-event =
         by_test (is_user (header_of b))
-        (λ u. rw (t.0, t.1, h, u, advance, sized_same s text))
-        (λ u. rw (t.0, t.1, h, u) (sym (brought s.current refl (room u) u)))
+        (λ u. rw (t.step, t.text, h, u, advance, sized_same s text))
+        (λ u. rw (t.step, t.text, h, u) (sym (brought s.current refl (room u) u)))
 
     -- the state stands for the same with the block's text behind it
     pub text-kept : assembly_of s text' ≡ assembly_of s text
     unfolding assembly_of text_after
     text-kept =
         by_test (is_user (header_of b))
-        (λ u. rw (t.1, h, u))
-        (λ u. rw (t.1, h, u, current-kept s.current text (block_text b) (room u)))
+        (λ u. rw (t.text, h, u))
+        (λ u. rw (t.text, h, u, current-kept s.current text (block_text b) (room u)))

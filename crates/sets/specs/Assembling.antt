@@ -1,6 +1,6 @@
 -- What the state of the assembly stands for, with the text buffer, and the step that a block makes.
 -- Assumes nothing.
-use Rattle.std.specs.Prelude.{ℕ, ◌+◌, ◌*◌, min, Bool, cond, not, ◌&&◌, ◌||◌, List, leb, length, take, Option, Some, None, Result, Ok, Err}
+use Rattle.std.specs.Prelude.{◌≡◌, ℕ, ◌+◌, ◌*◌, min, Bool, cond, not, ◌&&◌, ◌||◌, List, leb, length, take, Option, Some, None, Result, Ok, Err}
 use Rattle.std.proofs.Math.Option as math
 use Rattle.std.proofs.Math.Option.{none, some}
 use Rattle.meaning.specs.declared.Refusal.{Refusal}
@@ -28,6 +28,10 @@ current_of (Some s) text = some (set_of s text)
 
 unfoldable pub assembly_of : Sets → List ℕ → Assembly
 assembly_of s text = record { least = s.least; current = current_of s.current text }
+
+-- the sets before the first block
+abbrev pub no_sets : Sets
+no_sets = record { least = 0; current = None }
 
 -- what a step brought, with the text buffer after it, if there was room
 unfoldable pub event_of : Result Step Refusal → List ℕ → math.Option Event
@@ -76,3 +80,8 @@ step_in f place b s text = cond (has_room b s text) (step_of (size_after b s) (a
 -- the text buffer after a block
 unfoldable pub text_after : List ℕ → Sets → List ℕ → List ℕ
 text_after b s text = cond (has_room b s text && not (is_user (header_of b))) (stored text (text_end s.current) (block_text b)) text
+
+-- what a block does: the step that it makes, and the text buffer after it
+pub record Advances (f : Format) (place : ℕ) (b : List ℕ) (s : Sets) (buf : List ℕ) (r : Result Step Refusal) (buf' : List ℕ) : Type 0 where
+  pub step : r ≡ step_in f place b s buf
+  pub text : buf' ≡ text_after b s buf

@@ -5,13 +5,15 @@
 
 ghost use Rattle.std.specs.Prelude.{◌≡◌, List, ℕ, ◌+◌, leb};
 ghost use Rattle.meaning.specs.Refusals.{first_broken, verdict};
+ghost use Rattle.meaning.specs.Blocks.{header_of};
 ghost use Rattle.meaning.specs.Sets.{close_at_last, opening, goes_on, agreement_rules, continuing};
 ghost use Rattle.meaning.specs.Walk.{is_open};
-ghost use Rattle.sets.specs.Assembling.{set_with, assembly_of, text_end, step_of, step_in, text_after};
+ghost use Rattle.sets.specs.Assembling.{set_with, set_of, assembly_of, text_end, step_of, Advances};
 
 use meaning::{Format, Header, Refusal, TEXT_SIZE};
 
-// A set so far: the place and the header of its first block, the EBN of its last, and the size of its text.
+// A set so far: the place and the header of its first block, the EBN of its last, and the size of its text. A size and no slice:
+// `store::state_in` reads a set from the numbers of a store that callers in C lend, and the buffer is written on while the set is open.
 #[derive(Clone, Copy, Default, PartialEq, Eq)]
 pub struct Set {
     pub place: u64,
@@ -20,8 +22,19 @@ pub struct Set {
     pub size: usize,
 }
 
-// What is known after some blocks: the least SN that the next set may have, and the set that is not closed yet, if there is one.
-#[derive(Clone, Copy, PartialEq, Eq)]
+impl Set {
+    // The set's text, in the buffer that holds it.
+    #[tactic(auto, unfolding(crate::specs::Assembling::set_with, crate::specs::Assembling::set_of, meaning::specs::Lists::field))]
+    pub fn text(self, buffer: &[u8]) -> &[u8]
+        ensures { result.now ≡ (set_of self buffer.now).text }
+    {
+        block::field(buffer, 0, self.size)
+    }
+}
+
+// What is known after some blocks: the least SN that the next set may have, and the set that is not closed yet, if there is one. The
+// default stands before the first block.
+#[derive(Clone, Copy, Default, PartialEq, Eq)]
 pub struct Sets {
     pub least: u32,
     pub current: Option<Set>,
@@ -41,12 +54,6 @@ impl Sets {
     pub const FEW: usize = 16;
 
     pub const FEW_ROOM: usize = Sets::FEW * TEXT_SIZE;
-
-    // Before the first block.
-    pub const NONE: Sets = Sets {
-        least: 0,
-        current: None,
-    };
 
     #[tactic(auto, unfolding(meaning::specs::Walk::is_open, crate::specs::Assembling::assembly_of, crate::specs::Assembling::current_of))]
     pub fn is_open(self) -> bool
@@ -141,30 +148,39 @@ fn has_room(room: usize, at: usize, n: usize) -> bool
     room.checked_sub(at).is_some_and(|free| n <= free)
 }
 
-// One block: user data is passed over wherever it stands.
-pub fn advance(
-    f: Format,
-    place: u64,
-    bytes: &[u8],
-    text: &mut [u8],
-    s: Sets,
-) -> Result<Step, Refusal>
-    ensures step { result ≡ step_in f place bytes.now s text.old }
-    ensures text { text.new ≡ text_after bytes.now s text.old }
-{
-    let h = block::header_of(bytes);
-    if h.is_user() {
-        return Ok(Step::Pending(s));
+// A block where it stands: how its file is read, its place, and its bytes.
+#[derive(Clone, Copy)]
+pub struct PlacedBlock<'a> {
+    pub f: Format,
+    pub place: u64,
+    pub bytes: &'a [u8],
+}
+
+impl<'a> PlacedBlock<'a> {
+    pub fn header(self) -> Header
+        ensures { result ≡ header_of self.entry.bytes.now }
+    {
+        block::header_of(self.bytes)
     }
-    let part = block::text_of(bytes);
-    let at = text_end(s.current);
-    if !has_room(text.len(), at, part.len()) {
-        return Ok(Step::NoRoom);
-    }
-    let size = at + part.len();
-    text[at..size].copy_from_slice(part);
-    match s.current {
-        None => opening(f, place, h, size, s.least),
-        Some(set) => continuing(place, h, size, set, s.least),
+
+    // The step that the block makes: user data is passed over wherever it stands.
+    pub fn advance(self, text: &mut [u8], s: Sets) -> Result<Step, Refusal>
+        ensures { Advances self.entry.f self.entry.place self.entry.bytes.now s text.old result text.new }
+    {
+        let h = self.header();
+        if h.is_user() {
+            return Ok(Step::Pending(s));
+        }
+        let part = block::text_of(self.bytes);
+        let at = text_end(s.current);
+        if !has_room(text.len(), at, part.len()) {
+            return Ok(Step::NoRoom);
+        }
+        let size = at + part.len();
+        text[at..size].copy_from_slice(part);
+        match s.current {
+            None => opening(self.f, self.place, h, size, s.least),
+            Some(set) => continuing(self.place, h, size, set, s.least),
+        }
     }
 }

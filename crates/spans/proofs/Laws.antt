@@ -20,7 +20,8 @@ use Rattle.meaning.specs.Looks.{white_on_black, pack, unpack, blend}
 use Rattle.meaning.specs.Cells.{Cell, is_blank, is_blank_on_black, trim_front, before_trimmed, trim_back, shown}
 use Rattle.meaning.specs.Spans.{fits, foreground_of, look_of, uniform, spans_from, spans}
 use Rattle.meaning.proofs.LookLaws.{ThreeBits, white-bits, blend-bits, unpack-bits, unpack-pack}
-use Rattle.meaning.proofs.Logic.{by_test, false_not_true}
+use Rattle.std.proofs.lemmas.Bool.{false≢true}
+use Rattle.meaning.proofs.Logic.{by_test}
 use Rattle.meaning.proofs.ListLaws.{all_cons, all_end, all_tested, test_split, test-nil}
 use Rattle.laws.proofs.Fitting.{all_say, all_fit, refit_blank, is-uniform, one-uniform, look-shared}
 use Rattle.laws.proofs.Trimming.{last-cut, last-kept, front_cut, front_kept}
@@ -125,7 +126,7 @@ look_first (d ∷ ds) c e f g = let z : c ≡ d = cc in rw (f, g, z)
 
 foreground_some : (cs xs : List Cell) → all is_blank cs ≡ false → foreground_of (cs ++ xs) ≡ foreground_of cs
 unfolding foreground_of
-foreground_some [] xs e = absurd (false_not_true (sym e ∙ test-nil is_blank))
+foreground_some [] xs e = absurd (false≢true (sym e ∙ test-nil is_blank))
 foreground_some (b ∷ cs) xs e =
     by_test (is_blank b)
     (λ f. rw (f, foreground_of) (foreground_some cs xs (rw (all_cons is_blank b cs, f) at e)))
@@ -149,7 +150,7 @@ module _ (b : Cell) (cs xs : List Cell) where
   uniform-in =
       by_test (all (fits whole) (b ∷ cs))
       (λ e. is-uniform whole b cs (all_say whole (b ∷ cs) e) ∙ sym e)
-      (λ e. by_test (uniform (b ∷ cs)) (λ u. absurd (false_not_true (sym e ∙ refitted u))) (λ u. u ∙ sym e))
+      (λ e. by_test (uniform (b ∷ cs)) (λ u. absurd (false≢true (sym e ∙ refitted u))) (λ u. u ∙ sym e))
 
 pub prefix_len-map : {A B : Type 0} (p : B → Bool) (f : A → B) (xs : List A) → prefix_len p (map f xs) ≡ prefix_len (λ (x : A). p (f x)) xs
 prefix_len-map p f [] = refl
@@ -211,7 +212,7 @@ pub next_read :
     (cs : List PackedCell) {n k : ℕ} {l : Look} {first rest : List PackedCell} → eqb (length cs) 0 ≡ false
     → n ≡ prefix_len (fits_all cs) cs → first ≡ take n cs → rest ≡ drop n cs
     → l ≡ look_of (cells_in first) → k ≡ pack l → spans_in cs ≡ (cells_in first, k) ∷ spans_in rest
-next_read [] t e f r g h = absurd (false_not_true (sym t))
+next_read [] t e f r g h = absurd (false≢true (sym t))
 next_read (c ∷ cs) {n = n} {k} {first = first} {rest} t e f r g h =
     let m = look_of (cells_in (c ∷ cs)) in
     let s = first-span (cell_of c) (cells_in cs) n (e ∙ sym (prefix_len-map (fits m) cell_of (c ∷ cs))) in

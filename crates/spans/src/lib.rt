@@ -70,7 +70,7 @@ fn fits(look: u16, cell: PackedCell) -> bool
     }
     let own = Look::unpack(cell.look);
     let look = Look::unpack(look);
-    own.shares(look) & (is_blank(cell) | own.agrees(look))
+    own.shares(look) && (is_blank(cell) || own.agrees(look))
 }
 
 // The cells of a span, and its packed look.

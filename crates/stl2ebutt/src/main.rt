@@ -2,21 +2,17 @@
 
 #![tactic(auto)]
 
-use input::LIMIT;
 use std::io;
 
 fn main(rt: HostRuntime) -> io::Result<()> {
-    let mut digit = [0u8; 1];
-    // One byte more than a file may have, to see that it is longer.
-    let mut file = [0u8; LIMIT + 1];
-    let mut out = [0u8; LIMIT];
+    let mut file = [0u8; input::BUFFER_SIZE];
+    let mut out = [0u8; input::LIMIT];
     let mut stdin = rt.stdin();
-    input::read_full(&mut stdin, &mut digit)?;
-    let n = input::read_full(&mut stdin, &mut file)?;
-    if n > LIMIT {
+    let mode = input::read_mode(&mut stdin)?;
+    let Some(n) = input::read_file(&mut stdin, &mut file)? else {
         return println!(rt; "too long");
-    }
-    let a = convert::convert(&file[..n], input::mode_of(digit[0]), &mut out);
+    };
+    let a = convert::convert(&file[..n], mode, &mut out);
     if a.number > 0 {
         return println!(rt; "refused {} at {}", a.number, a.place);
     }

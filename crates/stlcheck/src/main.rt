@@ -18,7 +18,7 @@ fn feed_next<R: Read>(reader: &mut R, store: &mut [u8], lump: &mut [u8]) -> io::
     Ok(n < lump.len())
 }
 
-// More lumps than any input has: the loop has an end that no input reaches.
+// A `for` and no `loop`, which must be shown to end: an input has fewer lumps than that.
 fn feed_input<R: Read>(reader: &mut R, store: &mut [u8]) -> io::Result<()> {
     let mut lump = [0u8; LUMP];
     for _ in 0..u64::MAX {
@@ -30,11 +30,10 @@ fn feed_input<R: Read>(reader: &mut R, store: &mut [u8]) -> io::Result<()> {
 }
 
 fn main(rt: HostRuntime) -> io::Result<()> {
-    let mut digit = [0u8; 1];
     let mut store = [0u8; streamed::SIZE];
     let mut stdin = rt.stdin();
-    input::read_full(&mut stdin, &mut digit)?;
-    streamed::open_check(&mut store, input::mode_of(digit[0]), ROOM);
+    let mode = input::read_mode(&mut stdin)?;
+    streamed::open_check(&mut store, mode, ROOM);
     feed_input(&mut stdin, &mut store)?;
     for n in <[u64; 8]>::from(streamed::close_check(&mut store)) {
         println!(rt; "{n}")?;

@@ -3,20 +3,16 @@
 
 #![tactic(auto)]
 
-use input::LIMIT;
 use std::io;
 
 fn main(rt: HostRuntime) -> io::Result<()> {
-    let mut digit = [0u8; 1];
-    // One byte more than a file may have, to see that it is longer.
-    let mut file = [0u8; LIMIT + 1];
+    let mut file = [0u8; input::BUFFER_SIZE];
     let mut stdin = rt.stdin();
-    input::read_full(&mut stdin, &mut digit)?;
-    let n = input::read_full(&mut stdin, &mut file)?;
-    if n > LIMIT {
+    let mode = input::read_mode(&mut stdin)?;
+    let Some(n) = input::read_file(&mut stdin, &mut file)? else {
         return println!(rt; "too long");
-    }
-    let r = explain::explain(&file[..n], input::mode_of(digit[0]), LIMIT);
+    };
+    let r = explain::explain(&file[..n], mode, input::LIMIT);
     for n in <[u64; 5]>::from(r) {
         println!(rt; "{n}")?;
     }

@@ -8,7 +8,7 @@ use mathlib.Core.List.{List, [], ◌∷◌}
 use Rattle.std.specs.Prelude.{Some}
 use lib.ListN.{length, get_or, drop}
 use borrow.Author.Tests.{eq-eqb}
-use Rattle.meaning.proofs.Logic.{and_true}
+use Rattle.std.proofs.lemmas.Bool.{and_from}
 use Rattle.meaning.proofs.ListLaws.{All, nil, cons}
 use Rattle.output.proofs.Laws.{length-stored}
 use Rattle.words.specs.Words.{word_size, words_bytes, words}
@@ -79,8 +79,8 @@ module _ (store : List ℕ) (e : is_check store ≡ true) where
       let size = check_size store e in
       let closed_now = closed_store store in
       let c = check_in (state_of store) store in
-      and_true _ _
-      (and_true _ _
+      and_from _ _
+      (and_from _ _
       (eq-eqb (length closed_now) store_size (length-stored store 0 (words_bytes (closed_phase ∷ [])) ∙ size))
       (phase_closed store size))
       (ap is_sound (close_check store size) ∙ closed-sound c ∙ check_sound store e)

@@ -7,3 +7,4 @@ pub mod Sound
 pub mod Stores
 pub mod Known
 pub mod Closing
+pub mod Reading

@@ -7,6 +7,7 @@ use mathlib.Core.Bool.{cond}
 use mathlib.Core.List.{List, ◌∷◌}
 use lib.Dec.{eqb}
 use lib.ListN.{length}
+use Rattle.std.proofs.Math.Nat.{mod-eq_of_lt}
 use Rattle.meaning.specs.declared.Time.{Time}
 use Rattle.meaning.specs.declared.Header.{Header}
 use Rattle.meaning.proofs.ListLaws.{All, nil, cons}
@@ -47,40 +48,32 @@ cut_header h =
 abbrev cut_set : Set → Set
 cut_set s = record { place = s.place; first = cut_header s.first; last = s.last % 256; size = s.size }
 
-byte : (n : ℕ) → n < 256 → n % 256 ≡ n
-byte n h = omega arith
-
-wide : (n : ℕ) → n < 65536 → n % 65536 ≡ n
-wide n h = omega arith
-
 time_back : (t : Time) → TimeRange t → cut_time t ≡ t
-time_back t r = rw (byte t.hours r.hours, byte t.minutes r.minutes, byte t.seconds r.seconds, byte t.frames r.frames)
+time_back t r = rw (mod-eq_of_lt r.hours, mod-eq_of_lt r.minutes, mod-eq_of_lt r.seconds, mod-eq_of_lt r.frames)
 
 header_back : (h : Header) → HeaderRange h → cut_header h ≡ h
 header_back h r =
     rw (
-      byte h.sgn r.sgn,
-      wide h.sn r.sn,
-      byte h.ebn r.ebn,
-      byte h.cs r.cs,
+      mod-eq_of_lt r.sgn,
+      mod-eq_of_lt r.sn,
+      mod-eq_of_lt r.ebn,
+      mod-eq_of_lt r.cs,
       time_back h.tci r.tci,
       time_back h.tco r.tco,
-      byte h.vp r.vp,
-      byte h.jc r.jc,
-      byte h.cf r.cf,
+      mod-eq_of_lt r.vp,
+      mod-eq_of_lt r.jc,
+      mod-eq_of_lt r.cf,
     )
 
 current_back : (c : Option Set) → SetRange (set_in c) → cond (eqb (open_number c) 1) (Some (cut_set (set_in c))) None ≡ c
 unfolding set_in open_number
 current_back None r = refl
-current_back (Some s) r = rw (header_back s.first r.first, byte s.last r.last)
+current_back (Some s) r = rw (header_back s.first r.first, mod-eq_of_lt r.last)
 
 -- a check is told by its numbers
 pub numbers_back : (s : State) → InRange s → state_from s.phase (numbers_of s) ≡ s
 unfolding numbers_of state_from pass_from current_from set_from header_from time_from
-numbers_back s r =
-    let l : s.pass.sets.least % 4294967296 ≡ s.pass.sets.least = omega (arith, r.pass.least) in
-    rw (current_back s.pass.sets.current r.pass.set, l)
+numbers_back s r = rw (current_back s.pass.sets.current r.pass.set, mod-eq_of_lt r.pass.least)
 
 -- a phase, and 0 and 1, are numbers of eight bytes
 phase_word : (p : Phase) → IsWord (phase_number p)

@@ -9,7 +9,7 @@ use Rattle.std.specs.Prelude.{Some, None}
 use lib.Dec.{eqb}
 use lib.ListN.{length}
 use borrow.Author.Tests.{eq-eqb, eqb-true}
-use Rattle.meaning.proofs.Logic.{and_parts}
+use Rattle.std.proofs.lemmas.Bool.{and_parts}
 use Rattle.output.specs.Output.{stored}
 use Rattle.output.proofs.Laws.{length-stored}
 use Rattle.words.specs.Words.{words_bytes}

@@ -24,7 +24,8 @@ pub enum Phase {
 }
 
 // The numbers of a check: whether it is open or closed, break mode, room, the bytes of the GSI block so far and of the block that is not whole yet,
-// the whole blocks, pass one over them, and how much it laid.
+// the whole blocks, pass one over them, and how much it laid. Sizes and no slices, and a number for the mode: they are numbers of a store that
+// callers in C lend.
 #[derive(Clone, Copy)]
 pub struct State {
     pub phase: Phase,
@@ -75,7 +76,7 @@ impl From<Phase> for u64 {
 impl Phase {
     ghost use Rattle.store.specs.Phases.{phase_in};
 
-    // The phase that a number spells, if it spells one.
+    // The phase that a number spells, if it spells one. An Option and no TryFrom: there is nothing to say of a number that spells none.
     #[tactic(auto, using(crate::proofs::Phases::open_phase_is, crate::proofs::Phases::closed_phase_is), unfolding(crate::specs::Phases::phase_in, crate::specs::Phases::phase_from))]
     pub(crate) fn of(number: u64) -> Option<Phase>
         ensures { result ≡ phase_in number }

@@ -8,7 +8,8 @@ ghost use Rattle.store.specs.Numbers.{set_in, open_number, numbers_of};
 use crate::{NUMBERS, State};
 use sets::Set;
 
-// The open set; where there is none, numbers that are not read.
+// The Option is written as 1 or 0 and the numbers of a set: callers in C lend the store, and its layout has all its numbers, whether a set
+// is open or not. Where none is, those of the set say nothing.
 #[tactic(auto, unfolding(crate::specs::Numbers::set_in))]
 fn set_in(current: Option<Set>) -> Set
     ensures { result ≡ set_in current }
@@ -16,7 +17,7 @@ fn set_in(current: Option<Set>) -> Set
     current.unwrap_or_default()
 }
 
-// 1 or 0: a store has all its numbers, whether a set is open or not.
+// 1 where a set is open.
 #[tactic(auto, unfolding(crate::specs::Numbers::open_number))]
 fn open_number(current: Option<Set>) -> u64
     ensures { result ≡ open_number current }

@@ -20,14 +20,14 @@ use Rattle.meaning.proofs.Logic.{by_test}
 use Rattle.checking.specs.declared.Checked.{Checked}
 use Rattle.checking.specs.Passing.{outcome_of, checked_of}
 use Rattle.convert.specs.Telling.{answer_of}
-use Rattle.feeding.specs.Sound.{is_sound}
 use Rattle.lumps.specs.Lumps.{rule_now, answer_now}
 use Rattle.store.specs.declared.State.{State}
 use Rattle.store.specs.Layout.{gsi_at, store_size, marks_in, text_in}
 use Rattle.store.specs.Stores.{check_in}
-use Rattle.streamed.proofs.Feeding.{has_gsi, has_part}
+use Rattle.store.specs.Tests.{is_sound_state}
+use Rattle.streamed.proofs.Sound.{has_gsi, has_part}
 
-module _ (s : State) (store : List ℕ) (l : length store ≡ store_size) (h : is_sound (check_in s store) ≡ true) {gsi : List ℕ} {whole : Bool} (g : gsi ≡ field gsi_at s.gsi store) (w : whole ≡ (leb gsi_size s.gsi && eqb s.part 0)) where
+module _ (s : State) (store : List ℕ) (l : length store ≡ store_size) (h : is_sound_state s ≡ true) {gsi : List ℕ} {whole : Bool} (g : gsi ≡ field gsi_at s.gsi store) (w : whole ≡ (leb gsi_size s.gsi && eqb s.part 0)) where
   rule-here : first_broken 0 (gsi_rules s.mode 0 whole s.count gsi) ≡ rule_now (check_in s store)
   unfolding rule_now check_in
   rule-here = rw (g, w, has_gsi s store l h, has_part s store l h) refl

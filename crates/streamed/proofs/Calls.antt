@@ -16,7 +16,8 @@ use Rattle.meaning.specs.Refusals.{no_refusal, is_good, first_broken}
 use Rattle.meaning.specs.Conversion.{refused_answer}
 use Rattle.meaning.specs.Sets.{no_blocks}
 use Rattle.meaning.specs.Walk.{begun}
-use Rattle.meaning.proofs.Logic.{by_test, false_not_true}
+use Rattle.std.proofs.lemmas.Bool.{false≢true}
+use Rattle.meaning.proofs.Logic.{by_test}
 use Rattle.meaning.proofs.RefusalLaws.{good-number}
 use Rattle.output.specs.Output.{stored}
 use Rattle.output.proofs.Laws.{length-stored}
@@ -29,6 +30,7 @@ use Rattle.feeding.specs.Feeding.{Check, opened, fed, close}
 use Rattle.feeding.specs.Sound.{is_sound}
 use Rattle.feeding.proofs.Sound.{opened-sound}
 use Rattle.lumps.specs.Lumps.{rule_now, answer_now, feed}
+use Rattle.lumps.proofs.Cutting.{feed-fed}
 use denote.Enum.Bare.{sameb}
 use Rattle.store.specs.contracts.Phase as phase
 use Rattle.store.specs.declared.Phase.{Phase}
@@ -38,6 +40,8 @@ use Rattle.store.specs.Layout.{marks_at, store_size, marks_in, text_in}
 use Rattle.store.specs.Numbers.{numbers_of}
 use Rattle.store.specs.Phases.{phase_number, is_closed}
 use Rattle.store.specs.Stores.{state_of, state_in, check_in, is_check, check_of}
+use Rattle.store.specs.Tests.{is_sound_state}
+use Rattle.store.proofs.Sound.{sound_state}
 use Rattle.store.proofs.Ranges.{InRange}
 use Rattle.store.proofs.Checks.{marks-here}
 use Rattle.store.proofs.Stores.{check_of_lem, check_none, check_saved, check_size, check_sound}
@@ -71,10 +75,6 @@ module _ (c : Check) where
   unfolding feed
   feed-ended lump e = ap (λ (b : Bool). cond b c (fed c lump)) e
 
-  feed-running : (lump : List ℕ) → c.ended ≡ false → feed c lump ≡ fed c lump
-  unfolding feed
-  feed-running lump e = ap (λ (b : Bool). cond b c (fed c lump)) e
-
   close-ended : c.ended ≡ true → close c ≡ c
   close-ended e =
       ap (λ (b : Bool). record { mode = c.mode; room = c.room; gsi = c.gsi; part = c.part; count = c.count; outcome = c.outcome; ended = b }) (sym e)
@@ -82,19 +82,19 @@ module _ (c : Check) where
 -- a phase that is not the closed one, and one that is, as they are compared
 pub is-open : (p : Phase) → false ≡ sameb phase.the_type p Closed → p ≡ Open
 is-open Open e = refl
-is-open Closed e = absurd (false_not_true e)
+is-open Closed e = absurd (false≢true e)
 
 pub is-closed : (p : Phase) → true ≡ sameb phase.the_type p Closed → p ≡ Closed
-is-closed Open e = absurd (false_not_true (sym e))
+is-closed Open e = absurd (false≢true (sym e))
 is-closed Closed e = refl
 
 -- and as they are compared with the open one
 pub opened-phase : (p : Phase) → true ≡ sameb phase.the_type p Open → p ≡ Open
 opened-phase Open e = refl
-opened-phase Closed e = absurd (false_not_true (sym e))
+opened-phase Closed e = absurd (false≢true (sym e))
 
 pub other-phase : (p : Phase) → false ≡ sameb phase.the_type p Open → p ≡ Closed
-other-phase Open e = absurd (false_not_true e)
+other-phase Open e = absurd (false≢true e)
 other-phase Closed e = refl
 
 -- a store that holds a check, with its numbers
@@ -105,8 +105,12 @@ module _ (store : List ℕ) {s : State} (v : state_in store ≡ Some s) where
   known : Known
   known = by_test (is_check store) (λ k. let x = rw k at v in (k, cc)) (λ k. let x = rw k at v in cc)
 
-  pub check_held : (length store ≡ store_size) × (is_sound (check_in s store) ≡ true)
-  check_held = (check_size store known.0, rw known.1 (check_sound store known.0))
+  -- it can be taken as a check
+  pub held_size : length store ≡ store_size
+  held_size = check_size store known.0
+
+  pub held_sound : is_sound_state s ≡ true
+  held_sound = sym (sound_state store held_size s) ∙ rw known.1 (check_sound store known.0)
 
   check_here : check_of store ≡ Some (check_in s store)
   check_here = rw known.1 (check_of_lem store known.0)
@@ -139,8 +143,8 @@ module _ (store : List ℕ) {s : State} (v : state_in store ≡ Some s) where
     pub fed_open : (lump : List ℕ) {d : Check} {after : List ℕ} → d ≡ fed (check_in s store) lump → check_of after ≡ Some d → Fed store lump after
     unfolding fed_in
     fed_open lump f e = (
-      e ∙ ap Some (f ∙ sym (feed-running (check_in s store) lump running)) ∙ sym (ap (λ (o : Option Check). fed_in o lump) check_here),
-      λ r. absurd (false_not_true (sym r ∙ is-running)),
+      e ∙ ap Some (f ∙ sym (feed-fed (check_in s store) lump running)) ∙ sym (ap (λ (o : Option Check). fed_in o lump) check_here),
+      λ r. absurd (false≢true (sym r ∙ is-running)),
     )
 
     pub closed_now_lem :

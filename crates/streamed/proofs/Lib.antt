@@ -1,5 +1,6 @@
 pub mod Kept
 pub mod Walking
+pub mod Sound
 pub mod Feeding
 pub mod Answers
 pub mod Calls

@@ -2,13 +2,12 @@
 -- Assumes nothing.
 use Rattle.std.specs.Prelude.{ℕ, Bool, false, cond, not, List, Option, Some, None, eqb, length, replicate}
 use Rattle.meaning.specs.declared.Answer.{Answer}
-use Rattle.meaning.specs.Refusals.{no_refusal}
 use Rattle.meaning.specs.Looks.{look_count}
-use Rattle.meaning.specs.Walk.{no_counts}
 use Rattle.output.specs.Output.{stored}
 use Rattle.words.specs.Words.{words_bytes}
 use Rattle.words.specs.Flags.{flags_bytes}
 use Rattle.store.specs.declared.Phase.TheVariants.{Open}
+use Rattle.checking.specs.Passing.{begun_pass}
 use Rattle.feeding.specs.Feeding.{Check, opened, close}
 use Rattle.lumps.specs.Lumps.{answer_now, feed}
 use Rattle.store.specs.declared.State.{State}
@@ -26,7 +25,7 @@ begun_state mode room =
       gsi = 0;
       part = 0;
       count = 0;
-      pass = record { refusal = no_refusal; sets = record { least = 0; current = None }; counts = no_counts };
+      pass = begun_pass;
       tally = record { at = 0; spans = 0 };
     }
 

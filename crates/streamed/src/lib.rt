@@ -12,16 +12,18 @@ use meaning::{Answer, Look, Refusal};
 use store::{Phase, State};
 use text::Tally;
 
+mod blocks;
 mod check;
+mod parts;
 
 use check::StoredCheck;
 pub use store::SIZE;
 
-// A store that was never opened is answered as a check opened with break mode 0: rule 1.
+// A store that was never opened is answered as a check opened with break mode 0: rule 1. A constant calls no `Default`, so
+// `Refusal::NONE` stands beside the derived one.
 const NEVER_OPENED: Refusal = Refusal {
     number: 1,
-    place: 0,
-    offset: 0,
+    ..Refusal::NONE
 };
 
 // Before the first lump.
@@ -36,8 +38,8 @@ fn begun(mode: u64, room: u64) -> State
         gsi: 0,
         part: 0,
         count: 0,
-        pass: Pass::BEGUN,
-        tally: Tally { at: 0, spans: 0 },
+        pass: Pass::default(),
+        tally: Tally::default(),
     }
 }
 
@@ -55,6 +57,7 @@ pub fn open_check(store: &mut [u8], mode: u64, room: u64)
 }
 
 // A lump of the file, empty or not. A store that is none of an open check stays as it is.
+#[tactic(auto, using(crate::proofs::Calls::held_size, crate::proofs::Calls::held_sound))]
 pub fn feed_check(store: &mut [u8], lump: &[u8])
     ensures check { check_of store.new ≡ fed_in (check_of store.old) lump.now }
     ensures kept { is_running (check_of store.old) ≡ false → store.new ≡ store.old }
@@ -71,6 +74,7 @@ pub fn feed_check(store: &mut [u8], lump: &[u8])
 }
 
 // The answer on the file so far. The check is closed then, and the answer stays.
+#[tactic(auto, using(crate::proofs::Calls::held_size, crate::proofs::Calls::held_sound))]
 pub fn close_check(store: &mut [u8]) -> Answer
     ensures answer { result ≡ answer_in (check_of store.old) }
     ensures check { check_of store.new ≡ closed_in (check_of store.old) }
@@ -82,7 +86,8 @@ pub fn close_check(store: &mut [u8]) -> Answer
     let check = StoredCheck { store, state };
     let answer = check.answer();
     if state.phase == Phase::Open {
-        words::put_words(check.store, &[u64::from(Phase::Closed)]);
+        let StoredCheck { store, .. } = check;
+        words::put_words(store, &[u64::from(Phase::Closed)]);
     }
     answer
 }

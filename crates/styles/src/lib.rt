@@ -11,7 +11,8 @@ ghost use Rattle.styles.specs.Styles.{looks_marked};
 use meaning::Look;
 use output::Writer;
 
-// A mark for each look, set for the looks in use.
+// A mark for each look, set for the looks in use. No constant of marks that are all clear: who begins with those has the array
+// alone, `[false; Look::COUNT]`, and lends it as a slice.
 #[derive(Clone, Copy)]
 pub struct Marks {
     pub on: [bool; Look::COUNT],

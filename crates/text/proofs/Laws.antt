@@ -8,7 +8,7 @@ use mathlib.Core.Bool.{Bool, true}
 use mathlib.Core.List.{List, [], ◌∷◌, ◌++◌, append-nil, flat_map}
 use lib.ListN.{length, set, take, get_or, replicate, length-append}
 use lib.Seq.{take-suc}
-use borrow.Author.Tests.{eq-eqb, ne_eqb}
+use Rattle.std.specs.Prelude.{Some, None}
 use Rattle.std.proofs.lemmas.List.{map-append}
 use Rattle.meaning.specs.declared.Glyph.{Glyph}
 use Rattle.meaning.specs.Glyphs.{spelling}
@@ -92,13 +92,13 @@ break_laid h w k = laid-put h (put_as (append-nil (write_piece br)) w) k
 
 -- the code points of a character: one, or with its mark two
 module _ (g : Glyph) {w w1 : Writer} (p : Put w (escaped g.point) w1) where
-  pub character_bare : g.mark ≡ 0 → Put w (flat_map escaped (spelling g)) w1
+  pub character_bare : g.mark ≡ None → Put w (flat_map escaped (spelling g)) w1
   unfolding spelling flat_map
-  character_bare z = rw (eq-eqb g.mark 0 z) (put_as (append-nil (escaped g.point)) p)
+  character_bare e = rw e (put_as (append-nil (escaped g.point)) p)
 
-  pub character-marked : (g.mark ≡ 0 → ⊥) → {w2 : Writer} → Put w1 (escaped g.mark) w2 → Put w (flat_map escaped (spelling g)) w2
+  pub character-marked : {m : ℕ} → g.mark ≡ Some m → {w2 : Writer} → Put w1 (escaped m) w2 → Put w (flat_map escaped (spelling g)) w2
   unfolding spelling flat_map
-  character-marked z q = rw (ne_eqb g.mark 0 z) (p ▸ put_as (append-nil (escaped g.mark)) q)
+  character-marked {m} e q = rw e (p ▸ put_as (append-nil (escaped m)) q)
 
 -- those of one more cell
 pub character-more :

@@ -22,16 +22,16 @@ use Rattle.meaning.specs.Document.{Piece, looks_of}
 use Rattle.meaning.specs.Document.Piece.{span, br}
 use Rattle.meaning.specs.Conversion.{span_of, row_spans, later_rows, row_pieces}
 use Rattle.meaning.specs.Rows.{first_row, rows_of, row_limit}
-use Rattle.meaning.proofs.Logic.{by_test, by_le}
+use Rattle.meaning.proofs.Logic.{by_le}
 use Rattle.rows.specs.Scanning.{count_limit}
-use Rattle.rows.specs.Scanned.{is_ended, next_row_at, row_end_after}
+use Rattle.rows.specs.Scanned.{next_row_at, row_end_after}
 use Rattle.rows.proofs.FirstRow.{rows_after}
 use Rattle.rows.proofs.Laws.{rows-first, rows-after, no_rows_after}
 use Rattle.rows.proofs.RowEnds.{ended_at, not_ended, next-rows}
 use Rattle.cells.specs.declared.PackedCell.{PackedCell}
 use Rattle.cells.specs.declared.RowRead.{RowRead}
 use Rattle.cells.specs.Packed.{cell_of, cells_in}
-use Rattle.cells.specs.Decoded.{row_at, end_after, Decoded}
+use Rattle.cells.specs.Decoded.{row_at, Decoded}
 use Rattle.cells.proofs.Laws.{decoded-cells, decoded-look}
 use Rattle.spans.specs.declared.Span.{Span}
 use Rattle.spans.specs.Spans.{with_look, read_of}
@@ -55,10 +55,6 @@ cut-row xs =
     (λ h. let m : min (length xs) row_limit ≡ length xs = omega arith in rw m (take-length xs ∙ sym (take_all row_limit xs h)))
     (λ h. let m : min (length xs) row_limit ≡ row_limit = omega arith in rw m)
 
-ended-after : (text : List ℕ) (start : ℕ) → end_after text start ≡ row_end_after text start
-unfolding row_end_after
-ended-after text start = by_test (is_ended (tokens (drop start text))) (λ e. rw (e, row_end_after)) (λ e. rw (e, row_end_after))
-
 pub row_done :
     {text : List ℕ} {start before n : ℕ} {cells cells' : List PackedCell} {a b : BodyWriter} {d : RowRead} → Decoded text start before cells cells' d
     → length cells ≡ row_limit → n ≡ min d.cells row_limit → PiecesLaid a (map span (row_spans (cells_in (take n cells')))) b → RowDone text start before a b d
@@ -67,7 +63,7 @@ row_done {text} {start} {before} {n} {cells' = cells'} {d = d} k h e p =
     let row = row_at text start (unpack before) in
     let c : cells_in (take n cells') ≡ take row_limit row =
     sym (take-map cell_of n cells') ∙ decoded-cells before k n (omega (arith, e)) (omega (arith, e, h)) ∙ rw (e, k.count) (cut-row row) in
-    record { laid = rw c at p; after = k.after ∙ ended-after text start; look = decoded-look before k }
+    record { laid = rw c at p; after = k.after; look = decoded-look before k }
 
 module _ (text : List ℕ) (before : ℕ) (paired : Bool) where
   -- the pieces of all rows, and of those after the first of a run of tokens, from the look after that row

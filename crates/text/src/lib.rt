@@ -14,19 +14,20 @@ ghost use Rattle.output.specs.Output.{Put};
 ghost use Rattle.text.specs.Laid.{PiecesLaid, RowPut, RowDone, RowsDone, piece_of, content_of};
 
 use cells::{PackedCell, RowRead};
-use meaning::{Format, Glyph, Lines, Look, ROW_LIMIT, Rows};
+use meaning::{Glyph, Lines, Look, ROW_LIMIT, Rows};
 use output::Writer;
+use rows::SetText;
 use spans::{Span, Spans};
 
 // Where the next byte of a body goes, and the spans so far: what is kept of a body between calls.
-#[derive(Clone, Copy)]
+#[derive(Clone, Copy, Default)]
 pub struct Tally {
     pub at: usize,
     pub spans: usize,
 }
 
 // A body that is laid: the writer of its bytes, the marks of the looks in use, and the spans so far. It is made as a literal:
-// the check then knows what the writer and the marks hold after it.
+// a proof then knows what the writer and the marks hold after it.
 #[derive(Drop)]
 pub struct BodyWriter<'w, 'a> {
     pub writer: &'w mut Writer<'a>,
@@ -49,8 +50,8 @@ fn put_character(w: &mut Writer, character: Glyph)
     ensures { Put w.old (flat_map escaped (spelling character)) w.new }
 {
     xml::put_escaped(w, character.point);
-    if character.mark != 0 {
-        xml::put_escaped(w, character.mark);
+    if let Some(mark) = character.mark {
+        xml::put_escaped(w, mark);
     }
 }
 
@@ -100,10 +101,12 @@ fn put_breaks(w: &mut Writer, n: u64)
 }
 
 // The spans of what is shown of a row, and their number. Spans are counted, and their looks marked, here and nowhere else.
+// It takes the writer and the marks, and not the body: what a buffer two references deep holds is not known in a loop.
 fn put_row(w: &mut Writer, marks: &mut [bool], cells: &[PackedCell]) -> usize
     ensures { RowPut w.old marks.old (map span (row_spans (cells_in cells.now))) w.new marks.new result }
 {
     prove!(w.at <= usize::MAX);
+    // Not by `enumerate` or `count`: the count stops at the largest number, as `Laid` has it.
     let mut count = 0;
     for s in Spans::new(spans::shown(cells)) {
         put_span(w, s);
@@ -113,7 +116,7 @@ fn put_row(w: &mut Writer, marks: &mut [bool], cells: &[PackedCell]) -> usize
     count
 }
 
-// The count of a row's cells goes on past the array, so the row is not handed back as a slice.
+// The count of a row's cells goes on past the array (`Decoded`), so the row is not handed back as a slice.
 fn lay_row(body: &mut BodyWriter, text: &[u8], start: usize, before: u16) -> RowRead
     ensures { RowDone text.now start before body.old body.new result }
 {
@@ -125,7 +128,8 @@ fn lay_row(body: &mut BodyWriter, text: &[u8], start: usize, before: u16) -> Row
     row
 }
 
-// All rows laid, with a line break between them; their number, up to a limit.
+// All rows laid, with a line break between them; their number, up to a limit. A `while let`: where a row starts is told by the row
+// before it, which is laid as it is read.
 fn lay_rows(body: &mut BodyWriter, text: &[u8], before: u16, paired: bool) -> Rows
     ensures { RowsDone text.now before paired body.old body.new result }
 {
@@ -143,15 +147,15 @@ fn lay_rows(body: &mut BodyWriter, text: &[u8], before: u16, paired: bool) -> Ro
 
 // A set's text as the content of its paragraph: its rows with a line break between them, then one for each filler line.
 // A row is cut at the limit of rule 15.
-pub fn put_content(body: &mut BodyWriter, text: &[u8], f: Format, vp: u8)
-    ensures { PiecesLaid body.old (content_of f vp text.now) body.new }
+pub fn put_content(body: &mut BodyWriter, text: SetText)
+    ensures { PiecesLaid body.old (content_of text.entry.f text.entry.vp text.entry.bytes.now) body.new }
 {
-    let screen = f.screen;
-    let double = rows::is_double(text);
-    let paired = f.is_paired(double);
+    let screen = text.f.screen;
+    let double = rows::is_double(text.bytes);
+    let paired = text.f.is_paired(double);
     let look = Look::white_on_black(double);
-    let rows = lay_rows(body, text, look.pack(), paired);
+    let rows = lay_rows(body, text.bytes, look.pack(), paired);
     let lines = rows.lines(double);
-    let fillers = filler_lines(screen.end, vp, lines);
+    let fillers = filler_lines(screen.end, text.vp, lines);
     put_breaks(body.writer, fillers.0);
 }

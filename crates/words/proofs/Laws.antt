@@ -11,10 +11,9 @@ use lib.Seq.{length-take-le, take-nil, drop-nil, take_all, take_at, drop_at, dro
 use Rattle.std.specs.Int.{w64, from_le_bytes, to_le_bytes}
 use Rattle.std.proofs.lemmas.List.{drop-replicate}
 use Rattle.meaning.specs.Lists.{field}
-use Rattle.meaning.proofs.Logic.{by_le}
 use Rattle.meaning.proofs.ListLaws.{All, nil, cons}
 use Rattle.output.specs.Output.{stored}
-use Rattle.output.proofs.Laws.{stored-fits}
+use Rattle.output.proofs.Laws.{drop_past, stored-fits}
 use Rattle.words.specs.Words.{low_bytes, value_of, word_bytes, words_bytes, words, word_at}
 use Rattle.words.specs.Flags.{flag_byte, is_set, flags_bytes, flags_in, flags_over}
 
@@ -74,16 +73,19 @@ word_filled bs h =
     let l : length (bs ++ replicate (8 - length bs) 0) ≤ 8 = simp (length-append, length-replicate) (omega arith) in
     rw (z, le_value (bs ++ replicate (8 - length bs) 0), take_all 8 (bs ++ replicate (8 - length bs) 0) l, filled_value bs (8 - length bs))
 
+-- .. and of one that is whole
+pub word_whole : (bs ws : List ℕ) → length bs ≤ 8 → ws ≡ take 8 bs → from_le_bytes w64 ws ≡ value_of bs
+word_whole bs ws h e =
+    let same : ws ≡ bs = e ∙ take_all 8 bs h in
+    rw (le_value ws, same, take_all 8 bs h)
+
 pub word_room : (bs : List ℕ) → length bs ≤ 8 → length (take {A = ℕ} (length bs) (replicate 8 0)) ≡ length bs
 word_room bs h = length-take-le (length bs) (replicate {A = ℕ} 8 0) (omega (arith, length-replicate {A = ℕ} 8 0))
 
 -- a field too far to count starts past the end
 pub field_far : (s : List ℕ) (k : ℕ) → length s < 2 ^ 64 → field (min k 18446744073709551615) 8 s ≡ field k 8 s
 unfolding field
-field_far s k h =
-    by_le k 18446744073709551615
-    (λ l. let e : min k 18446744073709551615 ≡ k = omega arith in rw e)
-    (λ l. rw (drop_of_length-le s {i = min k 18446744073709551615} (omega arith), drop_of_length-le s {i = k} (omega arith)))
+field_far s k h = ap (take 8) (drop_past s k h)
 
 -- the list of the numbers has each number at its place
 pub words-read : (n : ℕ) (s : List ℕ) (i : ℕ) → i < n → get_or (words n s) i 0 ≡ word_at i s

@@ -12,11 +12,15 @@ use output::Writer;
 pub const WORD_SIZE: usize = 8;
 
 // Number i; what is past the end reads as 0, also at an index too large to multiply.
-#[tactic(auto, using(block::proofs::Fields::field_length, crate::proofs::Laws::word_room, crate::proofs::Laws::word_filled, crate::proofs::Laws::field_far), unfolding(crate::specs::Words::word_at))]
+#[tactic(auto, using(block::proofs::Fields::field_length, crate::proofs::Laws::word_whole, crate::proofs::Laws::word_room, crate::proofs::Laws::word_filled, crate::proofs::Laws::field_far), unfolding(crate::specs::Words::word_at))]
 pub fn word_at(s: &[u8], i: usize) -> u64
     ensures { result ≡ word_at i s.now }
 {
     let bytes = block::field(s, WORD_SIZE.saturating_mul(i), WORD_SIZE);
+    // A whole number is read at once.
+    if let Some(whole) = bytes.first_chunk::<WORD_SIZE>() {
+        return u64::from_le_bytes(*whole);
+    }
     let mut word = [0u8; WORD_SIZE];
     word[..bytes.len()].copy_from_slice(bytes);
     u64::from_le_bytes(word)
@@ -32,21 +36,23 @@ pub fn put_words(s: &mut [u8], ns: &[u64])
     }
 }
 
-// The truth values of the bytes, as many as both have; the rest stays. By index: nothing is known of what a loop over
-// `iter_mut().zip(..)` wrote.
+// The truth values of the bytes, as many as both have; the rest stays. Stored by index: nothing is known of
+// what a loop over `iter_mut().zip(..)` wrote.
 pub fn flags_in(s: &[u8], on: &mut [bool])
     ensures { on.new ≡ flags_over s.now on.old }
 {
-    for j in 0..s.len().min(on.len()) {
-        on[j] = s[j] == 1;
+    let n = s.len().min(on.len());
+    for (j, b) in s[..n].iter().enumerate() {
+        on[j] = *b == 1;
     }
 }
 
-// The truth values from an offset on; those past the buffer's end are cut. By index, as in `flags_in`.
+// The truth values from an offset on; those past the buffer's end are cut. Stored by index, as in `flags_in`.
 pub fn put_flags(s: &mut [u8], at: usize, on: &[bool])
     ensures { s.new ≡ stored s.old at (flags_bytes on.now) }
 {
-    for j in 0..output::fitting(s.len(), at, on.len()) {
-        s[at + j] = u8::from(on[j]);
+    let n = output::fitting(s.len(), at, on.len());
+    for (j, set) in on[..n].iter().enumerate() {
+        s[at + j] = u8::from(*set);
     }
 }

@@ -8,7 +8,7 @@ use mathlib.Core.Bool.{true}
 use mathlib.Core.List.{List}
 use mathlib.Core.Option.{some, some-injective}
 use lib.ListN.{length}
-use Rattle.std.specs.Prelude.{Result, Ok, Err, None}
+use Rattle.std.specs.Prelude.{Result, Ok, Err}
 use Rattle.meaning.specs.declared.Refusal.{Refusal}
 use Rattle.meaning.specs.declared.Counts.{Counts}
 use Rattle.meaning.specs.declared.Format.{Format}
@@ -18,7 +18,8 @@ use Rattle.meaning.specs.Sets.{BlockSet, Event, no_blocks, advance}
 use Rattle.meaning.specs.Sets.Event.{broken, pending, closed}
 use Rattle.meaning.specs.Walk.{begun, Progress, Outcome, judge, step, steps, walk}
 use Rattle.meaning.specs.Walk.Outcome.{refused, accepted}
-use Rattle.meaning.proofs.Logic.{by_test, none_not_some}
+use mathlib.Core.Option.{none-ne-some}
+use Rattle.meaning.proofs.Logic.{by_test}
 use Rattle.laws.proofs.Steps.{walk_more}
 use Rattle.laws.proofs.Gathering.{refused-not}
 use Rattle.laws.proofs.Walk.{Bounded, BoundedAfter, bounded_more, advance-fits}
@@ -26,14 +27,14 @@ use Rattle.sets.specs.declared.Set.{Set}
 use Rattle.sets.specs.declared.Sets.{Sets}
 use Rattle.sets.specs.declared.Step.{Step}
 use Rattle.sets.specs.declared.Step.TheVariants.{NoRoom, Pending, Closed}
-use Rattle.sets.specs.Assembling.{set_of, current_of, assembly_of, event_of, has_room, room_for, step_in, text_after}
+use Rattle.sets.specs.Assembling.{no_sets, set_of, current_of, assembly_of, event_of, has_room, room_for, Advances}
 use Rattle.sets.proofs.Laws.{step-event, text-kept}
 use Rattle.sets.proofs.Rooms.{room-left}
 use Rattle.closed.specs.Body.{Body, lay_set}
 use Rattle.writing.specs.Laying.{Laying, lay_event, lay_blocks, laying_of}
 
 -- one block more, by the step that it made
-module _ (f : Format) (place : ℕ) (b : List ℕ) (w : Sets) (text : List ℕ) (body : Body) {text' : List ℕ} (room : has_room b w text ≡ true) {st : Result Step Refusal} (m : (st ≡ step_in f place b w text) × (text' ≡ text_after b w text)) where
+module _ (f : Format) (place : ℕ) (b : List ℕ) (w : Sets) (text : List ℕ) (body : Body) {text' : List ℕ} (room : has_room b w text ≡ true) {st : Result Step Refusal} (m : Advances f place b w text st text') where
   -- what is promised of the sets and of what is laid after it
   abbrev Stepped : Sets → Body → Type 0
   Stepped s body' = laying_of s text' body' ≡ lay_event f (laying_of w text body) (advance f place b (assembly_of w text))
@@ -47,7 +48,7 @@ module _ (f : Format) (place : ℕ) (b : List ℕ) (w : Sets) (text : List ℕ) 
 
   pub on-full : st ≡ Ok NoRoom → Stepped w body
   unfolding event_of
-  on-full e = absurd (none_not_some (sym (rw e at event)))
+  on-full e = absurd (none-ne-some _ (sym (rw e at event)))
 
   pub on-pending : {s : Sets} → st ≡ Ok (Pending s) → Stepped s body
   unfolding event_of lay_event laying_of
@@ -63,11 +64,11 @@ module _ (f : Format) (file : List ℕ) (body : Body) where
   unfolding lay_event
   event-fits k l (broken r) h g = bounded_more l.assembly h
   event-fits k l (pending a) h g = g
-  event-fits k l (closed s a) h g = λ q z. absurd (none_not_some (sym g ∙ z))
+  event-fits k l (closed s a) h g = λ q z. absurd (none-ne-some _ (sym g ∙ z))
 
   laying_fits : (k : ℕ) → Bounded k (lay_blocks f file body k).assembly
   unfolding lay_blocks no_blocks
-  laying_fits zero = λ q z. absurd (none_not_some z)
+  laying_fits zero = λ q z. absurd (none-ne-some _ z)
   laying_fits (suc k) =
       let h = laying_fits k in
       event-fits k (lay_blocks f file body k) _ h (advance-fits f k (block_at file k) _ h)
@@ -78,7 +79,7 @@ module _ (f : Format) (file : List ℕ) (body : Body) where
       pub long : length text ≡ room
       pub stands : laying_of s text p ≡ lay_blocks f file body k
 
-    pub written_none : (text : List ℕ) → length text ≡ room → Written text body (record { least = 0; current = None }) 0
+    pub written_none : (text : List ℕ) → length text ≡ room → Written text body no_sets 0
     unfolding lay_blocks laying_of no_blocks assembly_of current_of
     written_none text l = record { long = l; stands = refl }
 

@@ -6,30 +6,22 @@
 ghost use Rattle.std.specs.Prelude.{◌≡◌, true, ◌≤◌, length};
 ghost use Rattle.meaning.specs.Sets.{advance};
 ghost use Rattle.sets.specs.Assembling.{assembly_of, has_room, room_for};
-ghost use Rattle.closed.specs.Body.{body_of, KeepsBuffers};
+ghost use Rattle.closed.specs.Body.{body_of, LaysAs, Lays};
 ghost use Rattle.writing.specs.Laying.{lay_event, lay_blocks, laying_of};
 
 use closed::{lay, with_text_room};
 use meaning::Format;
-use sets::{Sets, Step};
+use sets::{PlacedBlock, Sets, Step};
 use text::BodyWriter;
 
-fn write_block(
-    f: Format,
-    place: u64,
-    bytes: &[u8],
-    text: &mut [u8],
-    body: &mut BodyWriter,
-    sets: Sets,
-) -> Sets
-    requires { has_room bytes.now sets text.old ≡ true }
-    ensures laid { laying_of result text.new (body_of body.new) ≡ lay_event f (laying_of sets text.old (body_of body.old)) (advance f place bytes.now (assembly_of sets text.old)) }
-    ensures buffers { KeepsBuffers body.old body.new }
+fn write_block(b: PlacedBlock, text: &mut [u8], body: &mut BodyWriter, sets: Sets) -> Sets
+    requires { has_room b.bytes.now sets text.old ≡ true }
+    ensures { LaysAs (laying_of result text.new) body.old (lay_event b.entry.f (laying_of sets text.old (body_of body.old)) (advance b.entry.f b.entry.place b.entry.bytes.now (assembly_of sets text.old))) body.new }
 {
-    match sets::advance(f, place, bytes, text, sets) {
+    match b.advance(text, sets) {
         Ok(Step::Pending(next)) => next,
         Ok(Step::Closed(set, next)) => {
-            lay(f, text, body, set);
+            lay(b.f, text, body, set);
             next
         }
         Ok(Step::NoRoom) => sets,
@@ -40,21 +32,24 @@ fn write_block(
 // The first n blocks, with a text buffer that has room for their texts.
 fn write_all(file: &[u8], n: usize, f: Format, text: &mut [u8], body: &mut BodyWriter)
     requires { room_for n ≤ length text.old }
-    ensures laid { body_of body.new ≡ (lay_blocks f file.now (body_of body.old) n).body }
-    ensures buffers { KeepsBuffers body.old body.new }
+    ensures { Lays body.old (lay_blocks f file.now (body_of body.old) n).body body.new }
 {
-    let mut sets = Sets::NONE;
-    // By number: past the file's end a block is empty, which `chunks` does not give.
+    let mut sets = Sets::default();
+    // By number: `write_blocks` promises any n, also past the file's end, where a block is empty.
     for k in 0..n {
-        let bytes = block::bytes_at(file, k);
-        sets = write_block(f, k as u64, bytes, text, body, sets);
+        let b = PlacedBlock {
+            f,
+            place: k as u64,
+            bytes: block::bytes_at(file, k),
+        };
+        sets = write_block(b, text, body, sets);
     }
 }
 
-// The first n blocks of any file.
+// The first n blocks of any file. n and f go along though the file tells them: the definition `lay_blocks` takes any, and so the promise is
+// for any.
 pub fn write_blocks(file: &[u8], n: usize, f: Format, body: &mut BodyWriter)
-    ensures laid { body_of body.new ≡ (lay_blocks f file.now (body_of body.old) n).body }
-    ensures buffers { KeepsBuffers body.old body.new }
+    ensures { Lays body.old (lay_blocks f file.now (body_of body.old) n).body body.new }
 {
     with_text_room(n, body, |text, body| write_all(file, n, f, text, body))
 }

@@ -15,6 +15,7 @@ fn continuation(c: u16) -> u8
     (128 + c % 64) as u8
 }
 
+// By hand and not by `char::encode_utf8`: `put_escaped` promises every u16, also a surrogate, which is no char.
 fn put_utf8(w: &mut Writer, c: u16)
     ensures { Put w.old (utf8 c) w.new }
 {

@@ -1,14 +1,9 @@
 -- `code_token` gives the token of a code by itself: from A0h on by the Latin table.
 -- Assumes nothing.
-use mathlib.Core.Path.{sym, ap, ◌∙◌}
-use Rattle.meaning.specs.declared.Token.TheVariants.{Character}
+use mathlib.Core.Path.{sym, ◌∙◌}
 use Rattle.charset.proofs.Codes.{upper_token}
-use Rattle.charset.proofs.Points.{point-token, no-point-token}
+use Rattle.charset.proofs.Points.{token_of}
 use Rattle.charset.proofs.code_token.Goals as goal
 
-pub returns-in-Some : goal.returns-in-Some
-returns-in-Some c =
-    ap Character c.single.ensures ∙ point-token _ (sym c.upper.ensures ∙ c.in-Some.is) ∙ sym (upper_token _ c.if-c-lt160.false)
-
-pub returns-in-None : goal.returns-in-None
-returns-in-None c = no-point-token _ (sym c.upper.ensures ∙ c.in-None.is) ∙ sym (upper_token _ c.if-c-lt160.false)
+pub returns : goal.returns
+returns c = token_of _ c.upper.ensures c.map_or.ensures ∙ sym (upper_token _ c.if-c-lt160.false)

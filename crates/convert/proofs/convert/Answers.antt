@@ -12,5 +12,5 @@ returns-in-Ok c =
 
 pub returns-in-Err : goal.returns-in-Err
 returns-in-Err c =
-    let r = right_refused _ _ _ (λ i. omega (arith, c.type_inv.file i)) (sym c.in-Err.is ∙ c.examine.ensures) c.answer_refused.ensures in
+    let r = right_refused _ _ _ (λ i. omega (arith, c.type_inv.file i)) (sym c.in-Err.is ∙ c.examine.ensures) c.from.ensures in
     record { answer = r.0; buffer = r.1.0; fewest = r.1.1 }

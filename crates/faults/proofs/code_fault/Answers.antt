@@ -1,41 +1,20 @@
-use native.Mathlib.Omega.{arith}
-use mathlib.Core.Path.{sym, ap, ◌∙◌}
+use mathlib.Core.Path.{ap, ◌∙◌}
 use mathlib.Core.Bool.{not}
-use Rattle.charset.specs.Readings.{readings_left}
-use Rattle.charset.proofs.Positions.{first-reading, readings-none}
-use Rattle.charset.proofs.Laws.{first-on}
+use Rattle.rows.proofs.ReadTo.{read-start, read_turn, read-next, read_all}
 use Rattle.faults.proofs.TokenSearch.{codes-start, codes-found, codes-more, codes-end}
 use Rattle.faults.proofs.code_fault.Goals as goal
 
 pub loop-at-init : goal.loop-at-init
-loop-at-init c =
-    record {
-      at = 0;
-      readings = ap readings_left c.into_iter-at-iterator.ensures.into_iter_gives ∙ c.new-at-items.ensures;
-      within = omega arith;
-      codes = codes-start _ _;
-    }
+loop-at-init c = read-start _ c.into_iter-at-iterator.ensures.into_iter_gives c.new-at-items.ensures (codes-start _ _)
 
 pub returns-then-not-is_listed : goal.returns-then-not-is_listed
 returns-then-not-is_listed c =
-    let l = c.loop-at.invariant in
-    let x = first-reading c.args.text.now l.at (sym l.readings ∙ c.in-Some.ensures.steps) in
-    x.here ∙ codes-found l.codes (first-on x) c.is_listed.ensures (ap not c.if-not-is_listed.true)
+    read_turn c.loop-at.invariant c.in-Some.ensures.steps (λ at p k o. p ∙ codes-found k o c.is_listed.ensures (ap not c.if-not-is_listed.true))
 
 pub loop-at-preserved : goal.loop-at-preserved
 loop-at-preserved c =
-    let l = c.loop-at.invariant in
-    let x = first-reading c.args.text.now l.at (sym l.readings ∙ c.in-Some.ensures.steps) in
-    let o = first-on x in
-    record {
-      at = c.in-Some.read.next;
-      readings = x.others;
-      within = o.within;
-      codes = codes-more l.codes o c.is_listed.ensures (ap not c.if-not-is_listed.false);
-    }
+    read-next c.loop-at.invariant c.in-Some.ensures.steps (λ at p k o. codes-more k o c.is_listed.ensures (ap not c.if-not-is_listed.false))
 
 pub returns : goal.returns
 returns c =
-    let l = c.loop-at.invariant in
-    let h = readings-none c.args.text.now l.at (sym l.readings ∙ c.in-None.ensures.steps.0) in
-    omega (arith, l.within, codes-end l.codes h)
+    read_all c.loop-at.invariant c.in-None.ensures.steps.0 (λ at k over. codes-end k over)

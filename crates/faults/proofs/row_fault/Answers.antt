@@ -1,29 +1,39 @@
 use native.Mathlib.Omega.{arith}
-use Rattle.charset.proofs.Points.{none_else}
-use Rattle.faults.proofs.RowSearch.{rows_start, rows-found, rows_last, count_low, rows_less, rows_more, row_fault_lem, heights-even}
+use mathlib.Core.Path.{ap}
+use mathlib.Core.Logic.{inl}
+use lib.ListN.{length}
+use Rattle.std.specs.Prelude.{Some}
+use Rattle.std.proofs.Common.{rules}
+use Rattle.rows.proofs.Placed.{places_few}
+use Rattle.faults.proofs.RowSearch.{numbered, rows_begin, turn_row, turn_left, rows-found, rows_on, rows_all, row_fault_lem, heights-even}
 use Rattle.faults.proofs.row_fault.Goals as goal
 
-pub loop-f-init : goal.loop-f-init
-loop-f-init c = rows_start _ _ _ _ _ (heights-even _ _ c.is_double-double.ensures c.is_paired-paired.ensures c.requires)
+pub loop-k-init-derived : goal.loop-k-init-derived
+loop-k-init-derived c =
+    let n = numbered c.into_iter-k-iterator.ensures.into_iter_gives c.enumerate-k-items.ensures.source c.enumerate-k-items.ensures.count c.new.ensures in
+    let few = places_few c.args.text.bytes.now c.is_paired-paired.result (Some 0) in
+    ((tt, tt, inl (omega (arith, few, ap length n.left, n.first, c.well_formed))), tt)
+
+pub loop-k-init : goal.loop-k-init
+loop-k-init c =
+    let n = numbered c.into_iter-k-iterator.ensures.into_iter_gives c.enumerate-k-items.ensures.source c.enumerate-k-items.ensures.count c.new.ensures in
+    let d = loop-k-init-derived c in
+    (d.0, d.1, rows_begin n.left (omega (arith, n.first)) (heights-even _ _ c.is_double-double.ensures c.is_paired-paired.ensures c.requires))
 
 pub returns-then-breaks_rows : goal.returns-then-breaks_rows
 returns-then-breaks_rows c =
+    let l = c.loop-k.invariant.2 in
+    let e = c.in-Some.ensures.steps.0 in
     row_fault_lem _ _ _ c.is_double-double.ensures c.is_paired-paired.ensures
-    (rows-found c.loop-f.invariant c.row_at-row.ensures c.breaks_rows.ensures c.if-breaks_rows.true c.row_name.ensures)
+    (rows-found (turn_left l e) (turn_row l e) (search rules) c.if-breaks_rows.true c.row_name.ensures)
 
-pub returns-in_default : goal.returns-in_default
-returns-in_default c =
-    row_fault_lem _ _ _ c.is_double-double.ensures c.is_paired-paired.ensures
-    (rows_last c.loop-f.invariant c.row_at-row.ensures c.breaks_rows.ensures c.if-breaks_rows.false (none_else _ c.in_default.not-Some))
+pub loop-k-preserved : goal.loop-k-preserved
+loop-k-preserved c =
+    let l = c.loop-k.invariant.2 in
+    let e = c.in-Some.ensures.steps in
+    let g = c.in-Some.ensures.goes.on c.loop-k.invariant.1 in
+    (g.0, g.1, rw e.2 (rows_on l e.0 (search rules) c.if-breaks_rows.false (omega (arith, c.well_formed))))
 
-pub overflow_add-count : goal.overflow_add-count
-overflow_add-count c =
-    omega (arith, count_low c.loop-f.invariant c.row_at-row.ensures c.breaks_rows.ensures c.if-breaks_rows.false (omega (arith, c.well_formed)))
-
-pub loop-f-smaller : goal.loop-f-smaller
-loop-f-smaller c =
-    rows_less c.loop-f.invariant c.row_at-row.ensures c.breaks_rows.ensures c.if-breaks_rows.false c.in-Some.is c.row_after-start.ensures
-
-pub loop-f-preserved : goal.loop-f-preserved
-loop-f-preserved c =
-    rows_more c.loop-f.invariant c.row_at-row.ensures c.breaks_rows.ensures c.if-breaks_rows.false c.in-Some.is c.row_after-start.ensures
+pub returns : goal.returns
+returns c =
+    row_fault_lem _ _ _ c.is_double-double.ensures c.is_paired-paired.ensures (rows_all c.loop-k.invariant.2 c.in-None.ensures.steps.0.0)

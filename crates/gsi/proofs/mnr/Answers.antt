@@ -6,7 +6,6 @@ use Rattle.block.proofs.Fields.{field_length}
 use Rattle.gsi.proofs.Digits.{two_digits}
 use Rattle.gsi.proofs.mnr.Goals as goal
 
-pub overflow_cast-result : goal.overflow_cast-result
-overflow_cast-result c =
-    let s = c.field.result.now in
-    omega (arith, two_digits s c.read_decimal.result (rw c.field.ensures (le_trans (field_length _ _ _) (omega arith))) c.read_decimal.ensures.small)
+pub returns-clause-small : goal.returns-clause-small
+returns-clause-small c =
+    two_digits c.field.result.now c.read_decimal.result (rw c.field.ensures (le_trans (field_length _ _ _) (omega arith))) c.read_decimal.ensures.small

@@ -18,5 +18,5 @@ pub loop-done-preserved : goal.loop-done-preserved
 loop-done-preserved g c =
     let l = c.loop-done in
     let n = c.in_ok-n in
-    let joined = filled l.done (length l.buffer - l.done) n.n l.buffer c.read.new.buf l.invariant.1 n.ensures.bound.0 in
-    (search rules, search rules, subst (Consumes _ _) joined (Consumes-trans _ _ _ _ _ l.invariant.2 n.ensures.bytes.0))
+    let joined = filled l.done (length l.buffer - l.done) n.n l.buffer c.read.new.buf l.invariant.0 n.ensures.bound.0 in
+    (search rules, subst (Consumes _ _) joined (Consumes-trans _ _ _ _ _ l.invariant.1 n.ensures.bytes.0))

@@ -1,31 +1,25 @@
-use native.Mathlib.Omega.{arith}
-use mathlib.Core.Path.{sym, ◌∙◌}
-use Rattle.charset.proofs.Laws.{read-on, turn_on}
-use Rattle.rows.proofs.RowLoop.{height-start, height-row-end, height-here, height-more, height-over}
+use mathlib.Core.Path.{refl, sym, ◌∙◌}
+use Rattle.rows.proofs.ReadTo.{run-start, run_turn, run-next, run_all}
+use Rattle.rows.proofs.RowLoop.{height-row-end, height-here, height-more, height-over}
 use Rattle.rows.proofs.is_double.Goals as goal
 
-pub loop-i-init : goal.loop-i-init
-loop-i-init c = height-start _
+pub loop-read-init : goal.loop-read-init
+loop-read-init c = run-start _ c.into_iter-read-iterator.ensures.into_iter_gives c.new-read-items.ensures (record { height = refl })
 
 pub returns-then-is_row_end : goal.returns-then-is_row_end
 returns-then-is_row_end c =
-    let o = read-on c.token_at-read.ensures c.loop-i-test.true in
-    height-row-end c.loop-i.invariant o (sym c.is_row_end.ensures ∙ c.if-is_row_end.true)
+    run_turn c.loop-read.invariant c.in-Some.ensures.steps (λ at k w. height-row-end k w.read (sym c.is_row_end.ensures ∙ c.if-is_row_end.true))
 
 pub returns-then-is_double_height : goal.returns-then-is_double_height
 returns-then-is_double_height c =
-    let o = read-on c.token_at-read.ensures c.loop-i-test.true in
-    height-here c.loop-i.invariant o (sym c.is_row_end.ensures ∙ c.if-is_row_end.false) (sym c.is_double_height.ensures ∙ c.if-is_double_height.true)
+    run_turn c.loop-read.invariant c.in-Some.ensures.steps
+    (λ at k w. height-here k w.read (sym c.is_row_end.ensures ∙ c.if-is_row_end.false) (sym c.is_double_height.ensures ∙ c.if-is_double_height.true))
 
-pub loop-i-smaller : goal.loop-i-smaller
-loop-i-smaller c =
-    omega (arith, turn_on c.token_at-read.ensures c.loop-i-test.true c.plain_end-i.ensures)
-
-pub loop-i-preserved : goal.loop-i-preserved
-loop-i-preserved c =
-    let w = turn_on c.token_at-read.ensures c.loop-i-test.true c.plain_end-i.ensures in
-    height-more c.loop-i.invariant w.read (sym c.is_row_end.ensures ∙ c.if-is_row_end.false)
-    (sym c.is_double_height.ensures ∙ c.if-is_double_height.false) w.run
+pub loop-read-preserved : goal.loop-read-preserved
+loop-read-preserved c =
+    run-next c.loop-read.invariant c.in-Some.ensures.steps
+    (λ at k w.
+    height-more k w.read (sym c.is_row_end.ensures ∙ c.if-is_row_end.false) (sym c.is_double_height.ensures ∙ c.if-is_double_height.false) w.run)
 
 pub returns : goal.returns
-returns c = height-over c.loop-i.invariant c.loop-i-test.false
+returns c = run_all c.loop-read.invariant c.in-None.ensures.steps.0 (λ at k over. height-over k over)

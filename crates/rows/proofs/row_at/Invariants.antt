@@ -2,8 +2,9 @@
 -- Assumes nothing.
 use mathlib.Core.Bool.{true}
 use Rattle.charset.specs.Readings.{readings_left}
-use Rattle.rows.proofs.RowLoop.{RowRest}
+use Rattle.rows.proofs.ReadTo.{ReadTo}
+use Rattle.rows.proofs.RowLoop.{RowLeft}
 use Rattle.rows.proofs.row_at.Given as goal
 
 abbrev pub invariant-loop-read : goal.invariant-loop-read
-invariant-loop-read l = RowRest true l.text l.start l.facts (readings_left l.read-iterator)
+invariant-loop-read l = ReadTo (RowLeft true l.text l.start l.facts) l.text (readings_left l.read-iterator)

@@ -1,18 +1,13 @@
 -- `close_check` tells the answer, and closes an open check.
 -- Assumes nothing.
 use mathlib.Core.Path.{sym, ◌∙◌}
-use Rattle.streamed.proofs.Calls.{closed_none, check_held, closed-again, closed_now_lem, opened-phase, other-phase}
+use Rattle.streamed.proofs.Calls.{closed_none, closed-again, closed_now_lem, opened-phase, other-phase}
 use Rattle.streamed.proofs.close_check.Goals as goal
 
 pub returns-in_default : goal.returns-in_default
 returns-in_default c =
     let r = closed_none c.args.store.now (sym c.state_in.ensures ∙ c.in_default.is) c.answer_refused.ensures in
     record { answer = r.0; check = r.1.0; store = r.1.1 }
-
-pub answer-answer-requires : goal.answer-answer-requires
-answer-answer-requires c =
-    let r = check_held c.args.store.now (sym c.state_in.ensures ∙ c.in-Some.is) in
-    record { size = r.0; sound = r.1 }
 
 pub returns-then-eq : goal.returns-then-eq
 returns-then-eq c =

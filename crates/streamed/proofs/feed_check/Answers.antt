@@ -1,9 +1,8 @@
--- `feed_check` feeds an open check, and leaves any other store as it is.
+-- `feed_check` feeds an open check.
 -- Assumes nothing.
 use mathlib.Core.Path.{sym, ◌∙◌}
 use Rattle.std.proofs.Common.{rules}
-use Rattle.streamed.proofs.Calls.{fed-none, check_held, fed-closed, fed_open, is-open, is-closed}
-use Rattle.streamed.proofs.Feeding.{fed_check}
+use Rattle.streamed.proofs.Calls.{fed-none, is-open, is-closed, fed-closed, fed_open}
 use Rattle.streamed.proofs.feed_check.Goals as goal
 
 pub returns-in_default : goal.returns-in_default
@@ -16,21 +15,11 @@ returns-then-eq c =
     let r = fed-closed c.args.store.now (sym c.state_in.ensures ∙ c.in-Some.is) (is-closed _ c.if-eq.ensures) c.args.lump.now in
     record { check = r.0; kept = r.1 }
 
-pub feed-requires : goal.feed-requires
-feed-requires c =
-    let r = check_held c.args.store.now (sym c.state_in.ensures ∙ c.in-Some.is) in
-    record { size = r.0; sound = r.1 }
-
-pub save-requires : goal.save-requires
-save-requires c =
-    let r = check_held c.args.store.now (sym c.state_in.ensures ∙ c.in-Some.is) in
-    fed_check c.args.lump.now (record { size = r.0; sound = r.1 }) c.feed.ensures
-
 pub returns : goal.returns
 returns c =
     let v = sym c.state_in.ensures ∙ c.in-Some.is in
     let z = is-open _ c.if-eq.ensures in
     record {
-      check = (fed_open c.args.store.now v z c.args.lump.now c.feed.ensures.check (search rules)).0;
-      kept = (fed_open c.args.store.now v z c.args.lump.now c.feed.ensures.check (search rules)).1;
+      check = (fed_open c.args.store.now v z c.args.lump.now c.feed.ensures.fed (search rules)).0;
+      kept = (fed_open c.args.store.now v z c.args.lump.now c.feed.ensures.fed (search rules)).1;
     }

@@ -1,10 +1,11 @@
 -- `put_character` writes a character's code points: one, or two.
 -- Assumes nothing.
+use Rattle.charset.proofs.Points.{none_else}
 use Rattle.text.proofs.Laws.{character_bare, character-marked}
 use Rattle.text.proofs.put_character.Goals as goal
 
-pub returns-then-character-ne0 : goal.returns-then-character-ne0
-returns-then-character-ne0 c = character-marked c.args.character c.put_escaped.ensures c.if-character-ne0.true c.put_escaped-then-character-ne0.ensures
+pub returns-in-Some : goal.returns-in-Some
+returns-in-Some c = character-marked c.args.character c.put_escaped.ensures c.in-Some.is c.put_escaped-in-Some.ensures
 
-pub returns-else-character-ne0 : goal.returns-else-character-ne0
-returns-else-character-ne0 c = character_bare c.args.character c.put_escaped.ensures c.if-character-ne0.false
+pub returns-in_default : goal.returns-in_default
+returns-in_default c = character_bare c.args.character c.put_escaped.ensures (none_else _ c.in_default.not-Some)

@@ -1,11 +1,17 @@
+use Prim.Native.Nat.{ℕ, zero, suc}
+use native.Mathlib.Omega.{arith}
+use mathlib.Core.Path.{◌≡◌, refl, ◌∙◌}
+use mathlib.Core.Bool.{not}
+use lib.Dec.{eqb}
+use borrow.Author.Tests.{ne_eqb}
+use Rattle.std.specs.Bool.{then_some}
 use Rattle.charset.specs.Points.{point_of}
-use Rattle.charset.proofs.Points.{point_some}
-use mathlib.Core.Path.{sym}
 use Rattle.charset.proofs.characters.point_of.Goals as goal
 
-pub returns-then-entry-eq0 : goal.returns-then-entry-eq0
+point-then : (n : ℕ) → then_some (not (eqb n 0)) n ≡ point_of n
 unfolding point_of
-returns-then-entry-eq0 c = rw c.if-entry-eq0.true
+point-then zero = refl
+point-then (suc n) = rw (ne_eqb (suc n) 0 (λ z. omega (arith, z)))
 
-pub returns-else-entry-eq0 : goal.returns-else-entry-eq0
-returns-else-entry-eq0 c = sym (point_some _ c.if-entry-eq0.false)
+pub returns : goal.returns
+returns c = c.then_some.ensures ∙ point-then _

@@ -1,4 +1,5 @@
--- `entry` gives the entry of a row and a column in the one table.
+-- `entry` gives the entry of a row and a column in the one table: an answer for each row. Tried: the law `in_row` named on the function;
+-- the search finds no part of the table in a row's numbers.
 -- Assumes nothing.
 use mathlib.Core.Path.{◌≡◌, sym, ◌∙◌}
 use Prim.Native.Nat.{ℕ, ◌+◌, ◌*◌, ◌≤◌, ◌<◌}

@@ -1,11 +1,9 @@
 -- `draw` has drawn the row up to a position.
 -- Assumes nothing.
-use Rattle.std.proofs.Common.{length, ◌-◌}
+use Rattle.charset.specs.Runs.{runs_left}
+use Rattle.rows.proofs.ReadTo.{RunTo}
 use Rattle.cells.proofs.RowLeft.{RowLeft}
 use Rattle.cells.proofs.drawing.Drawing.draw.Given as goal
 
-abbrev pub invariant-loop-i : goal.invariant-loop-i
-invariant-loop-i l = RowLeft l.text l.start l.initial.self l.self l.i
-
-abbrev pub decreases-loop-i : goal.decreases-loop-i
-decreases-loop-i l = length l.text - l.i
+abbrev pub invariant-loop-reading : goal.invariant-loop-reading
+invariant-loop-reading l = RunTo (RowLeft l.text l.start l.initial.self l.self) l.text (runs_left l.reading-iterator)

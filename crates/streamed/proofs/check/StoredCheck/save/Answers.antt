@@ -4,15 +4,10 @@ use mathlib.Core.Path.{refl, ap, ◌∙◌}
 use Rattle.store.specs.Stores.{check_of}
 use Rattle.store.proofs.Known.{known_state}
 use Rattle.store.proofs.Stores.{check_saved}
+use Rattle.streamed.proofs.Sound.{sound}
 use Rattle.streamed.proofs.check.StoredCheck.save.Goals as goal
 
-pub returns : goal.returns
-returns c =
-    let e = c.state-state.ensures in
-    record {
-      held =
-          ap check_of c.put_state.ensures
-          ∙ check_saved _ _ c.requires.size (known_state _ _ c.state-state.type_inv) (rw e c.requires.sound)
-          ∙ rw e refl;
-      same = refl;
-    }
+pub returns-clause-held : goal.returns-clause-held
+returns-clause-held c =
+    let k = c.args.self.now in
+    ap check_of c.put_state.ensures ∙ check_saved _ _ k.size (known_state _ _ c.state-state.type_inv) (rw c.state-state.ensures (sound _ _ k.size k.sound)) ∙ rw c.state-state.ensures refl
