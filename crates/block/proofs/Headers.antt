@@ -39,5 +39,9 @@ module _ (a b : List ℕ) (e : (j : ℕ) → j < 16 → get_or a j 0 ≡ get_or 
 pub header_whole : (b h : List ℕ) → h ≡ take 16 b → header_of h ≡ header_of b
 header_whole b h e = rw e (header-alike _ b (λ j k. get_or-take 16 b j 0 k))
 
+pub header-filled : (b : List ℕ) (k : ℕ) → header_of (b ++ drop (length b) (replicate k 0)) ≡ header_of b
+header-filled b k = header-alike _ b (λ j h. filled b (drop (length b) (replicate k 0)) (λ i. rw get_or-drop (at_copies k (length b + i) 0)) j)
+
+-- .. with the size of an array that is filled up: the search does not find the number of zeros by itself
 pub header_filled : (b : List ℕ) → header_of (b ++ drop (length b) (replicate 16 0)) ≡ header_of b
-header_filled b = header-alike _ b (λ j k. filled b (drop (length b) (replicate 16 0)) (λ i. rw get_or-drop (at_copies 16 (length b + i) 0)) j)
+header_filled b = header-filled b 16

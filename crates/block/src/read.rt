@@ -42,9 +42,9 @@ fn whole_header(b: &[u8; HEADER_SIZE]) -> Header
     }
 }
 
-// The header of a block's bytes; those past the block's end read as 0.
+// Bytes past the block's end read as 0.
 #[tactic(auto, using(crate::proofs::Headers::header_whole, crate::proofs::Headers::header_filled))]
-pub fn header_of(bytes: &[u8]) -> Header
+pub(crate) fn header_in(bytes: &[u8]) -> Header
     ensures { result ≡ header_of bytes.now }
 {
     if let Some(whole) = bytes.first_chunk::<HEADER_SIZE>() {
@@ -62,9 +62,9 @@ fn length_before_end(text: &[u8]) -> usize
     memchr::memchr(TEXT_END, text).unwrap_or(text.len())
 }
 
-// The text of a block's bytes, as a part of them: the bytes before the first 8Fh of the text field.
+// The bytes before the first 8Fh of the text field.
 #[tactic(auto, using(meaning::proofs::ListLaws::take_while_lem, meaning::proofs::ListLaws::while_short), unfolding(meaning::specs::Blocks::block_text))]
-pub fn text_of(bytes: &[u8]) -> &[u8]
+pub(crate) fn text_in(bytes: &[u8]) -> &[u8]
     ensures { result.now ≡ block_text bytes.now }
 {
     let text = field(bytes, HEADER_SIZE, TEXT_SIZE);

@@ -34,12 +34,18 @@ fn say_name(rt: &impl Print, header: &[u8; HEADER_SIZE]) -> io::Result<()> {
 
 // The numbers of an answer in a line, with a blank between them. No `Display`: the check program has them a number a line.
 fn say_answer(rt: &impl Print, a: Answer) -> io::Result<()> {
-    let numbers = <[u64; 8]>::from(a);
-    print!(rt; "{}", numbers[0])?;
-    for n in &numbers[1..] {
-        print!(rt; " {n}")?;
-    }
-    println!(rt; "")
+    let [
+        number,
+        place,
+        length,
+        subtitles,
+        comments,
+        continuations,
+        users,
+        spans,
+    ] = <[u64; 8]>::from(a);
+    print!(rt; "{number} {place} {length} {subtitles} ")?;
+    println!(rt; "{comments} {continuations} {users} {spans}")
 }
 
 #[derive(Clone, Copy)]

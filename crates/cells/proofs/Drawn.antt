@@ -93,6 +93,18 @@ module _ (p : Pen) where
   run-take (suc n) [] = refl
   run-take (suc n) (c ∷ cs) = ap (λ (l : List Cell). cell_of (plain_token c) p ∷ l) (run-take n cs)
 
+-- .. before other tokens too, in the words of the cell of one code. The proofs above need only the run itself; this stands for a loop that has the rest at hand.
+unfoldable pub run_cell : Pen → ℕ → Cell
+run_cell p c = cell_of (plain_token c) p
+
+unfoldable pub run_cells : Pen → List ℕ → List Cell
+run_cells p cs = map (run_cell p) cs
+
+pub run-from : (pen : Pen) (cs : List ℕ) (ts : List Token) → cells_from pen (map plain_token cs ++ ts) ≡ run_cells pen cs ++ cells_from pen ts
+unfolding run_cells run_cell cells_from cells_of takes_cell pen_after look_next hidden_next is_control_of
+run-from pen [] ts = refl
+run-from pen (c ∷ cs) ts = ap (λ (l : List Cell). cell_of (plain_token c) pen ∷ l) (run-from pen cs ts)
+
 run-front : (front n : ℕ) (cs : List ℕ) → front_from front n (map plain_token cs) ≡ front
 unfolding front_from front_after is_box_code is_control_of
 run-front front n [] = refl

@@ -1,4 +1,6 @@
 pub mod Storing
+pub mod Keeping
+pub mod Overlay
 pub mod Fronts
 pub mod Pens
 pub mod Drawn

@@ -6,7 +6,7 @@ use mathlib.Core.Bool.{Bool}
 use Rattle.meaning.specs.declared.Token.{Token}
 use Rattle.meaning.specs.declared.Look.{Look}
 use Rattle.meaning.specs.Looks.{look_count, white_on_black, start_look, pack, unpack}
-use Rattle.meaning.specs.Cells.{look_here, look_next}
+use Rattle.meaning.specs.Cells.{Pen, look_here, look_next, hidden_next, pen_after}
 use Rattle.meaning.proofs.LookLaws.{white-bits, start-bits, unpack-pack, pack-small, unpack-bits}
 use Rattle.laws.proofs.CellFacts.{next-bits}
 use Rattle.laws.proofs.Boxes.{same-height}
@@ -28,3 +28,12 @@ unpack_hidden double = unpack-pack _ (white-bits double)
 
 pub same_height : (t : Token) (l : Look) → (look_here t l).double ≡ l.double
 same_height t l = (same-height t l).0
+
+-- A pen from a packed look and whether it hides: packed again after a token it is the pen after that token. `PackedPen::after` says the same of the type; this
+-- law is of any packed look, and no proof needs it.
+abbrev pub pen_from : ℕ → Bool → Pen
+pen_from n hidden = record { look = unpack n; hidden = hidden }
+
+pub next-pen : (t : Token) (pen : ℕ) (hidden : Bool) → pen_from (pack (look_next t (unpack pen))) (hidden_next t hidden) ≡ pen_after t (pen_from pen hidden)
+unfolding pen_after
+next-pen t pen hidden = λ i. record { look = unpack_next t pen i; hidden = hidden_next t hidden }

@@ -36,7 +36,7 @@ pub record RowLeft (text : List ℕ) (start : ℕ) (d₀ d : Drawing) (i : ℕ) 
 pub left-all : (text : List ℕ) (start : ℕ) (d : Drawing) → d.count ≤ start → RowLeft text start d d start
 left-all text start d h = record { past = []; drawn = draws_none d; row = refl; after = refl; few = h }
 
-part-size : (text : List ℕ) (from n : ℕ) → from + n ≤ length text → length (take n (drop from text)) ≡ n
+pub part-size : (text : List ℕ) (from n : ℕ) → from + n ≤ length text → length (take n (drop from text)) ≡ n
 part-size text from n h = simp (length-take, length-drop) (omega arith)
 
 token-size : (p : Pen) (t : Token) → length (cells_from p (t ∷ [])) ≤ 1

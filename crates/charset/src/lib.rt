@@ -161,7 +161,9 @@ impl<'a> Iterator for Readings<'a> {
         if self.text.len() <= at {
             return None;
         }
-        let read = reading_at(self.text, at);
+        // Made anew, as in `Runs`.
+        let Reading { token, next } = reading_at(self.text, at);
+        let read = Reading { token, next };
         self.at = read.next;
         Some((at, read))
     }
@@ -225,7 +227,10 @@ impl<'a> Iterator for Runs<'a> {
         if self.text.len() <= at {
             return None;
         }
-        let read = token_at(self.text, at);
+        // Made anew of its parts: one that is handed on whole is stored, and read again in other pieces than it was stored in, for which
+        // a processor waits. A file refused in its longest set then took half as long again.
+        let Reading { token, next } = token_at(self.text, at);
+        let read = Reading { token, next };
         let end = run_end(self.text, read);
         self.at = end;
         Some((read, end))

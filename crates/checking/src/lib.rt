@@ -5,12 +5,12 @@
 ghost use Rattle.std.specs.Prelude.{◌≡◌, ◌≤◌, length};
 ghost use Rattle.meaning.specs.Walk.{set_rule, finish, walk};
 ghost use Rattle.sets.specs.Assembling.{room_for};
-ghost use Rattle.closed.specs.Body.{body_of, empty_body, lay_set, LaysAs};
-ghost use Rattle.checking.specs.Passing.{checked_of, outcome_of};
+ghost use Rattle.closed.specs.Body.{empty_body, lay_set};
+ghost use Rattle.checking.specs.Passing.{checked_of};
 
-use closed::with_text_room;
 use meaning::{Counts, Format, GSI_SIZE, Look, Refusal};
 use output::Writer;
+use sets::Sets;
 use styles::Marks;
 use text::{BodyWriter, Tally};
 
@@ -26,18 +26,11 @@ pub struct Checked {
     pub marks: Marks,
 }
 
-// The first n blocks, with a text buffer that has room for their texts.
-fn check_all(file: &[u8], n: usize, f: Format, text: &mut [u8], body: &mut BodyWriter) -> Pass
+// The first n blocks, with a text buffer that has room for their texts: one function in each pass asks for it, and would take a type for it
+// apart at once. The buffer goes beside the body: what a buffer two references deep holds is not known in a loop. Nothing is written here:
+// paragraphs are measured over a buffer of no bytes.
+fn check_with(file: &[u8], n: usize, f: Format, text: &mut [u8]) -> Result<Checked, Refusal>
     requires { room_for n ≤ length text.old }
-    ensures { LaysAs (outcome_of result text.new) body.old (walk f (set_rule f) (lay_set f) (body_of body.old) file.now n) body.new }
-{
-    let blocks = block::field(file, GSI_SIZE, file.len());
-    check_more(blocks, n, 0, f, text, body, Pass::default())
-}
-
-// The first n blocks of any file. n and f go along though the file tells them: the definition `walk` takes any, and so the promise is for
-// any.
-pub fn check_blocks(file: &[u8], n: usize, f: Format) -> Result<Checked, Refusal>
     ensures { result ≡ checked_of (finish n (walk f (set_rule f) (lay_set f) empty_body file.now n)) }
 {
     let mut out = [0u8; 0];
@@ -48,7 +41,23 @@ pub fn check_blocks(file: &[u8], n: usize, f: Format) -> Result<Checked, Refusal
         marks: &mut on,
         spans: 0,
     };
-    let w = with_text_room(n, &mut body, |text, body| check_all(file, n, f, text, body));
+    let blocks = block::field(file, GSI_SIZE, file.len());
+    let w = check_more(blocks, n, 0, f, text, &mut body, Pass::default());
     let tally = body.tally();
     w.checked(n as u64, tally, Marks { on })
+}
+
+// The first n blocks of any file. n and f go along though the file tells them: the definition `walk` takes any, and so the promise is for
+// any.
+pub fn check_blocks(file: &[u8], n: usize, f: Format) -> Result<Checked, Refusal>
+    ensures { result ≡ checked_of (finish n (walk f (set_rule f) (lay_set f) empty_body file.now n)) }
+{
+    // A file of few blocks has a small text buffer, which takes less time to clear. `write_blocks` has the same lines: one function for both
+    // passes would take the pass as a closure and require that it may be called, and no public function requires anything.
+    if n <= Sets::FEW {
+        let mut text = [0u8; Sets::FEW_ROOM];
+        return check_with(file, n, f, &mut text);
+    }
+    let mut text = [0u8; Sets::ROOM];
+    check_with(file, n, f, &mut text)
 }

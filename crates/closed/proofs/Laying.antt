@@ -11,6 +11,7 @@ use Rattle.meaning.proofs.ListLaws.{join_append}
 use Rattle.output.specs.Output.{Wrote}
 use Rattle.output.proofs.Laws.{◌⨟◌, wrote-length}
 use Rattle.text.specs.declared.BodyWriter.{BodyWriter}
+use Rattle.text.specs.Laid.{Laid}
 use Rattle.text.proofs.Laws.{marked_append, past-append}
 use Rattle.document.specs.Parts.{ParagraphLaid}
 use Rattle.closed.specs.Body.{Body, body_of, laid, KeepsBuffers, LaysAs, Lays}
@@ -35,10 +36,14 @@ laid-append ps qs p h =
     (bodies (sym b.held) (marked_append p.marks (document_looks ps) (document_looks qs)) (sym b.next)
     (sym (past-append p.tally.spans (document_looks ps) (document_looks qs))))
 
--- one paragraph laid
-is-laid : {b b' : BodyWriter} (p : Paragraph) → ParagraphLaid b p b' → body_of b' ≡ laid (p ∷ []) (body_of b)
-unfolding laid flat_map document_looks
-is-laid p l = rw (append-nil (write_paragraph p), append-nil (paragraph_looks p)) (bodies l.wrote.wrote.held l.marks l.wrote.wrote.next l.spans)
+-- a body is what is laid on another, for paragraphs and for one
+pub is-laid : {b b' : BodyWriter} (ps : List Paragraph) → Laid b (flat_map write_paragraph ps) (document_looks ps) b' → body_of b' ≡ laid ps (body_of b)
+unfolding laid
+is-laid ps l = bodies l.wrote.wrote.held l.marks l.wrote.wrote.next l.spans
+
+one : {b b' : BodyWriter} (p : Paragraph) → ParagraphLaid b p b' → Laid b (flat_map write_paragraph (p ∷ [])) (document_looks (p ∷ [])) b'
+unfolding flat_map document_looks
+one p l = rw (append-nil (write_paragraph p), append-nil (paragraph_looks p)) l
 
 -- buffers that nothing is done to, and that are kept by two steps
 pub keeps-none : {a : BodyWriter} → KeepsBuffers a a
@@ -52,4 +57,4 @@ pub lays-nothing : {A : Type 0} {stands : Body → A} {b : BodyWriter} {a : A} �
 lays-nothing e = record { laid = e; buffers = keeps-none }
 
 pub lays-paragraph : {b b' : BodyWriter} (p : Paragraph) {q : Body} → ParagraphLaid b p b' → laid (p ∷ []) (body_of b) ≡ q → Lays b q b'
-lays-paragraph p l e = record { laid = is-laid p l ∙ e; buffers = record { writer = l.writer; out = l.wrote.same; marks = l.same } }
+lays-paragraph p l e = record { laid = is-laid (p ∷ []) (one p l) ∙ e; buffers = record { writer = l.writer; out = l.wrote.same; marks = l.same } }

@@ -13,10 +13,6 @@ use rows::SetText;
 use sets::Set;
 use text::BodyWriter;
 
-mod room;
-
-pub use room::with_text_room;
-
 // The first rule that the set breaks is the error.
 #[tactic(auto, unfolding(meaning::specs::Walk::set_rule, sets::specs::Assembling::set_of, sets::specs::Assembling::set_with, meaning::specs::Refusals::verdict, meaning::specs::Refusals::is_good, meaning::specs::Refusals::no_refusal))]
 pub fn set_rule(f: Format, text: &[u8], set: Set) -> Result<(), Refusal>

@@ -59,6 +59,11 @@ below-marks p h =
     (λ e. absurd (omega (arith, h, leb-true 768 p (one_of (leb 768) p marks e (unfold all marks in refl)))))
     (λ e. e)
 
+-- a mark is not 0: where a mark of 0 is to say that there is none, as the page of request 7 asks, no mark is taken for none
+pub mark_not_none : (m : ℕ) → is_mark m ≡ true → eqb m 0 ≡ false
+unfolding is_mark
+mark_not_none m e = not-true (eqb m 0) (one_of (λ k. not (eqb k 0)) m marks e (unfold all marks in refl))
+
 small-base : (p : ℕ) → p < 768 → is_base p ≡ true
 unfolding is_base
 small-base p h = and_from (ltb p first_surrogate) (not (is_mark p)) (lt-ltb p first_surrogate (omega arith)) (ap not (below-marks p h))

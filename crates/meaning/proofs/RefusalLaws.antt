@@ -2,14 +2,14 @@
 -- Assumes nothing.
 use Prim.Native.Nat.{ℕ, suc, ◌≤◌}
 use native.Mathlib.Omega.{arith}
-use mathlib.Core.Path.{◌≡◌, refl, sym, ◌∙◌}
+use mathlib.Core.Path.{◌≡◌, refl, sym, ap, ◌∙◌}
 use mathlib.Core.Bool.{Bool, true, false}
 use mathlib.Core.List.{List, [], ◌∷◌, ◌++◌}
 use borrow.Author.Tests.{eq-eqb, ne_eqb}
 use Rattle.meaning.specs.declared.Refusal.{Refusal}
 use Rattle.std.specs.Prelude.{Result, Ok, Err}
 use Rattle.std.specs.Result.{result_and}
-use Rattle.meaning.specs.Refusals.{Rule, holds, no_refusal, is_good, first_broken, kept, verdict}
+use Rattle.meaning.specs.Refusals.{Rule, holds, no_refusal, is_good, first_broken, kept, verdict, in_turn, turns}
 use Rattle.meaning.specs.Lists.{all}
 use Rattle.meaning.specs.declared.Time.{Time}
 use Rattle.meaning.specs.declared.Header.{Header}
@@ -124,3 +124,43 @@ verdict_holds place (r ∷ rs) h e =
     by_test r.2
     (λ t. rw (t, all) (verdict_holds place rs h.2 (rw (t, first_broken) at e)))
     (λ t. let k = rw (t, first_broken, ne_eqb r.0 0 (λ z. omega (arith, h.0)), verdict) at e in absurd (cc))
+
+-- Rules in turn by a refusal so far: a rule that is broken counts where none before it was. No function goes by it, and the laws stand for themselves: they
+-- say that the order in which rules are asked is that of `first_broken`, whether results or refusals are handed on.
+stays : (place : ℕ) (r : Refusal) (rs : List Rule) → is_good r ≡ false → turns place r rs ≡ r
+unfolding in_turn
+stays place r [] e = refl
+stays place r (x ∷ xs) e = by_test x.2 (λ t. rw t (stays place r xs e)) (λ t. rw (t, e) (stays place r xs e))
+
+pub in_turn_lem : (place : ℕ) (rs : List Rule) → Numbered rs → turns place no_refusal rs ≡ first_broken place rs
+unfolding first_broken in_turn no_refusal is_good
+in_turn_lem place [] h = refl
+in_turn_lem place (r ∷ rs) h =
+    by_test r.2
+    (λ t. rw (t, first_broken) (in_turn_lem place rs h.2))
+    (λ t. rw (t, first_broken) (stays place _ rs (ne_eqb r.0 0 (λ z. omega (arith, h.0)))))
+
+-- the rules of two lists, one after the other
+pub turns-append : (place : ℕ) (r : Refusal) (rs qs : List Rule) → turns place r (rs ++ qs) ≡ turns place (turns place r rs) qs
+turns-append place r [] qs = refl
+turns-append place r (x ∷ rs) qs = turns-append place (in_turn r place x.0 x.1 x.2) rs qs
+
+-- a refusal so far stays, whether the next rule holds or not
+pub stays-one : (place n o : ℕ) (r : Refusal) (b : Bool) → is_good r ≡ false → in_turn r place n o b ≡ r
+unfolding in_turn
+stays-one place n o r true e = refl
+stays-one place n o r false e = rw e
+
+-- where no rule of a list was broken in turn, none was before, and all of them hold
+pub turns-good : (place : ℕ) (r : Refusal) (rs : List Rule) → Numbered rs → is_good (turns place r rs) ≡ true → (is_good r ≡ true) × (all holds rs ≡ true)
+unfolding in_turn all
+turns-good place r [] n e = (e, refl)
+turns-good place r (x ∷ rs) n e =
+    by_test x.2
+    (λ t. rw (t, all) (turns-good place r rs n.2 (rw t at e)))
+    (λ t.
+    by_test (is_good r)
+    (λ g.
+    let b = bad-number (record { number = x.0; place = place; offset = x.1 }) (λ z. omega (arith, n.0)) in
+    absurd (false≢true (sym (ap is_good (stays place _ rs b) ∙ b) ∙ (rw (t, g) at e))))
+    (λ g. absurd (false≢true (sym (ap is_good (stays place r rs g) ∙ g) ∙ (rw (t, g) at e)))))

@@ -1,6 +1,6 @@
 -- The rule that a file breaks, with the block and the offset where, and rules in their order: document 01, "What comes back"; document 02, request 3.
 -- Assumes nothing.
-use Rattle.std.specs.Prelude.{ℕ, Bool, true, false, List, [], ◌∷◌, eqb, Result, Ok, Err}
+use Rattle.std.specs.Prelude.{ℕ, Bool, true, false, cond, List, [], ◌∷◌, eqb, Result, Ok, Err}
 use Rattle.meaning.specs.declared.Refusal.{Refusal}
 
 -- a rule: its number, the offset that names it where it is broken, and whether it holds
@@ -29,3 +29,13 @@ kept holds number place offset = elim holds [ true ↦ Ok tt | false ↦ Err (re
 -- a refusal as a result: no rule is broken, or the first that is
 unfoldable pub verdict : Refusal → Result Unit Refusal
 verdict r = elim (is_good r) [ true ↦ Ok tt | false ↦ Err r ]
+
+-- The same rules told by a refusal so far, as they are read in turn. No contract is stated so: `RefusalLaws.in_turn_lem` says that this comes to the first
+-- that is broken.
+unfoldable pub in_turn : Refusal → ℕ → ℕ → ℕ → Bool → Refusal
+in_turn r place number offset holds = cond holds r (cond (is_good r) (record { number = number; place = place; offset = offset }) r)
+
+-- and all rules of a list
+abbrev pub turns : ℕ → Refusal → List Rule → Refusal
+turns place r [] = r
+turns place r (x ∷ xs) = turns place (in_turn r place x.0 x.1 x.2) xs

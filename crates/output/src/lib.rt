@@ -15,7 +15,7 @@ pub fn after(at: usize, n: usize) -> usize
     at.saturating_add(n)
 }
 
-// No crate calls it. It stays for its promise: the edits `least_is_first` and `least_is_greatest` are refused of it.
+#[inline]
 pub fn least(a: usize, b: usize) -> usize
     ensures { result ≡ min a b }
 {
@@ -26,7 +26,7 @@ pub fn least(a: usize, b: usize) -> usize
 pub fn fitting(size: usize, at: usize, n: usize) -> usize
     ensures { result ≡ min n (size - at) }
 {
-    n.min(size.saturating_sub(at))
+    least(n, size.saturating_sub(at))
 }
 
 // Values copied into an array from an index on; those past its end are cut. Where all fit, as many are copied as the slice has:
@@ -42,6 +42,18 @@ pub fn put_at<T: Copy>(array: &mut [T], at: usize, values: &[T])
         } else {
             array[at..at + room].copy_from_slice(&values[..room]);
         }
+    }
+}
+
+// Bytes copied into a buffer from an index on; those past its end are cut. A loop over two parameters, in a call of its own: of these it is
+// known that they do not overlap, so the library for C needs `memcpy` from outside and no `memmove`, which `copy_from_slice` becomes.
+#[inline(never)]
+pub fn put_bytes(buffer: &mut [u8], at: usize, bytes: &[u8])
+    ensures { buffer.new ≡ stored buffer.old at bytes.now }
+{
+    let n = fitting(buffer.len(), at, bytes.len());
+    for (j, b) in bytes[..n].iter().enumerate() {
+        buffer[at + j] = *b;
     }
 }
 

@@ -127,16 +127,10 @@ module _ (f : Format) (place : ℕ) (b : List ℕ) (s : Sets) (text : List ℕ) 
     on-full e = record { step = rw (other, room-is, e); text = rw (other, room-is, e) }
 
     -- the block's text copied into the part of the buffer that it fills
-    module _ (fits : room ≡ true) {copied : List ℕ} (q : copied ≡ part) where
-      abbrev text' : List ℕ
-      text' = take at text ++ (copied ++ drop (at + length part - at) (drop at text))
-
+    module _ (fits : room ≡ true) {text' : List ℕ} (q : text' ≡ stored text at part) where
       stored-text : text' ≡ text_after b s text
       unfolding text_after has_room
-      stored-text =
-          let low : at + length part ≤ length text = leb-true _ _ (sym hr ∙ fits) in
-          stored-copied text at part (length part) (at + length part - at) (omega arith) (omega arith) (omega arith) (q ∙ sym (take_all (length part) part (omega arith)))
-          ∙ rw (other, room-is, fits, sym te, sym pt)
+      stored-text = q ∙ rw (other, room-is, fits, sym te, sym pt)
 
       size_is : at + length part ≡ size_after b s
       unfolding size_after

@@ -177,7 +177,7 @@ impl<'a> PlacedBlock<'a> {
             return Ok(Step::NoRoom);
         }
         let size = at + part.len();
-        text[at..size].copy_from_slice(part);
+        output::put_bytes(text, at, part);
         match s.current {
             None => opening(self.f, self.place, h, size, s.least),
             Some(set) => continuing(self.place, h, size, set, s.least),

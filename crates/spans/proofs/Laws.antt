@@ -1,19 +1,22 @@
 -- Trimming by counts of blanks, and the first span by the look of all cells that are left.
 -- Assumes nothing.
-use Prim.Native.Nat.{ℕ, suc, ◌+◌, ◌-◌}
+use Prim.Native.Nat.{ℕ, suc, ◌+◌, ◌-◌, ◌≤◌}
 use native.Mathlib.Omega.{arith}
-use mathlib.Core.Path.{◌≡◌, refl, sym, ap, ◌∙◌}
+use mathlib.Core.Path.{◌≡◌, refl, sym, ap, subst, ◌∙◌}
 use mathlib.Core.Bool.{Bool, true, false, not, ◌&&◌, and-true}
 use mathlib.Core.List.{List, [], ◌∷◌, ◌++◌, map, reverse, append_assoc, append-nil}
 use lib.Dec.{eqb}
 use borrow.Author.Tests.{eqb-true}
-use lib.ListN.{length, take, drop, length-append}
-use lib.Seq.{take_all}
+use lib.ListN.{length, take, drop, get_or, length-append, length-map}
+use lib.Seq.{take_all, length-take-le}
 use Rattle.std.specs.Prelude.{Option, Some, None}
 use Rattle.std.specs.List.{prefix_len, find, slice_get}
 use denote.Ref.{Bor}
 use Rattle.std.specs.Option.{MatchOption, option_map, option_map_or}
 use Rattle.std.proofs.lemmas.List.{reverse-append, reverse-reverse, length-reverse, map-append, take-map, drop-map, take-append-le}
+use Rattle.std.proofs.lemmas.List.Sums.{prefix_len-le-length}
+use Rattle.std.proofs.lemmas.Iterator.{YieldsList}
+use Rattle.std.proofs.lemmas.Iterator.Consumers.{YieldsList-from_shown}
 use Rattle.meaning.specs.declared.Look.{Look}
 use Rattle.meaning.specs.Lists.{all}
 use Rattle.meaning.specs.Looks.{white_on_black, pack, unpack, blend}
@@ -27,7 +30,9 @@ use Rattle.laws.proofs.Fitting.{all_say, all_fit, refit_blank, is-uniform, one-u
 use Rattle.laws.proofs.Trimming.{last-cut, last-kept, front_cut, front_kept}
 use Rattle.cells.specs.declared.PackedCell.{PackedCell}
 use Rattle.cells.specs.Packed.{cell_of, cells_in}
-use Rattle.spans.specs.Spans.{with_look, spans_in}
+use Rattle.spans.specs.declared.Span.{Span}
+use Rattle.spans.specs.declared.Spans.{Spans}
+use Rattle.spans.specs.Spans.{with_look, spans_in, read_of, spans_left, cells_left, first_span, StandsFirst, GivesSpan}
 
 module _ {A : Type 0} (p : A → Bool) (x : A) (xs : List A) where
   prefix_on : p x ≡ true → prefix_len p (x ∷ xs) ≡ suc (prefix_len p xs)
@@ -179,7 +184,7 @@ grown b cs (x ∷ xs) m q u =
     let v : uniform (b ∷ cs ++ (x ∷ [])) ≡ false = j ∙ e in
     rw (v, spans_from, prefix_off (fits m) x xs e, append-nil cs))
 
-first-span :
+pub first-span :
     (b : Cell) (xs : List Cell) (n : ℕ) → n ≡ prefix_len (fits (look_of (b ∷ xs))) (b ∷ xs)
     → spans (b ∷ xs) ≡ take n (b ∷ xs) ∷ spans (drop n (b ∷ xs))
 unfolding spans
@@ -221,6 +226,40 @@ next_read (c ∷ cs) {n = n} {k} {first = first} {rest} t e f r g h =
     let p : k ≡ pack (look_of (cells_in first)) = h ∙ ap pack g in
     let u : spans (cells_in (c ∷ cs)) ≡ cells_in first ∷ spans (cells_in rest) = s ∙ rw (a, b) in
     rw p (ap (map with_look) u)
+
+-- where it stands: its cells are as many as fit the look of all
+pub stands_first :
+    (cs : List PackedCell) {n : ℕ} {x : Span} {rest : List PackedCell} → eqb (length cs) 0 ≡ false
+    → n ≡ prefix_len (fits_all cs) cs → x.cells.now ≡ take n cs → rest ≡ drop n cs → StandsFirst cs x rest
+unfolding first_span
+stands_first [] t e f r = absurd (false≢true (sym t))
+stands_first (c ∷ cs) {n = n} t e f r =
+    let m = look_of (cells_in (c ∷ cs)) in
+    let s = first-span (cell_of c) (cells_in cs) n (e ∙ sym (prefix_len-map (fits m) cell_of (c ∷ cs))) in
+    let few : n ≤ length (cells_in (c ∷ cs)) = omega (arith, e, prefix_len-le-length (fits_all (c ∷ cs)) (c ∷ cs), length-map (c ∷ cs) cell_of) in
+    let k : n ≡ length (first_span (cells_in (c ∷ cs))) = sym (ap (λ (xs : List (List Cell)). length (get_or xs 0 [])) s ∙ length-take-le n (cells_in (c ∷ cs)) few) in
+    record { cells = f ∙ ap (λ (j : ℕ). take j (c ∷ cs)) k; others = r ∙ ap (λ (j : ℕ). drop j (c ∷ cs)) k }
+
+-- the numbers of a span that a call gave: how many cells it has, so that it ends that far behind its start, and its packed look
+told-first : (ps : List (List Cell)) → get_or (map with_look ps) 0 (with_look []) ≡ with_look (get_or ps 0 [])
+told-first [] = refl
+told-first (p ∷ ps) = refl
+
+module _ {s t : Spans} {x : Span} (g : GivesSpan s (Some x) t) where
+  abbrev first_left : List Cell
+  first_left = first_span (cells_in (cells_left s))
+
+  pub span-told : (length x.cells.now ≡ length first_left) × (x.look ≡ pack (look_of first_left))
+  unfolding first_span
+  span-told =
+      let e : read_of x ≡ with_look first_left =
+      sym (ap (λ (l : List (List Cell × ℕ)). get_or l 0 (with_look [])) g.first) ∙ told-first (spans (cells_in (cells_left s))) in
+      (sym (length-map x.cells.now cell_of) ∙ ap (λ (p : List Cell × ℕ). length p.0) e, ap (λ (p : List Cell × ℕ). p.1) e)
+
+-- what calls give: the spans of the cells that are left, in turn
+pub YieldsList-from_spans : {s : Spans} (xs : List (List Cell × ℕ)) → spans_left s ≡ xs → YieldsList GivesSpan read_of s xs
+YieldsList-from_spans {s} xs e =
+    subst (YieldsList GivesSpan read_of s) e (YieldsList-from_shown GivesSpan read_of spans_left (λ t u g. ap length g.first.0) (λ t x u g. g.first) s)
 
 pub read_none : (cs : List PackedCell) → eqb (length cs) 0 ≡ true → spans_in cs ≡ []
 unfolding spans

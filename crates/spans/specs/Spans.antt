@@ -1,6 +1,6 @@
 -- The spans of cells, as they are read from a slice.
 -- Assumes nothing.
-use Rattle.std.specs.Prelude.{ℕ, List, map, Option}
+use Rattle.std.specs.Prelude.{◌≡◌, ℕ, List, [], map, length, get_or, take, drop, Option, IfSome}
 use Rattle.std.specs.Iterator.{YieldsFirstBy}
 use Rattle.meaning.specs.Cells.{Cell}
 use Rattle.meaning.specs.Looks.{pack}
@@ -25,6 +25,21 @@ read_of s = (cells_in s.cells.now, s.look)
 abbrev pub spans_left : Spans → List (List Cell × ℕ)
 spans_left s = spans_in s.cells.now
 
--- a call gave the first of them, or `None` where none was left
-abbrev pub GivesSpan : Spans → Option Span → Spans → Type 0
-GivesSpan = YieldsFirstBy read_of spans_left
+-- the cells that they are read from
+abbrev pub cells_left : Spans → List PackedCell
+cells_left s = s.cells.now
+
+-- the first span of some cells, none where there are no cells
+unfoldable pub first_span : List Cell → List Cell
+first_span cs = get_or (spans cs) 0 []
+
+-- a span has the first of the cells, as many as the first span of them, and the others are left. The cells themselves, as they are
+-- packed: many packed looks stand for one look.
+pub record StandsFirst (cs : List PackedCell) (x : Span) (left : List PackedCell) : Type 0 where
+  pub cells : x.cells.now ≡ take (length (first_span (cells_in cs))) cs
+  pub others : left ≡ drop (length (first_span (cells_in cs))) cs
+
+-- a call gave the first of the spans, or `None` where none was left, and took its cells from the front
+pub record GivesSpan (s : Spans) (r : Option Span) (t : Spans) : Type 0 where
+  pub first : YieldsFirstBy read_of spans_left s r t
+  pub place : IfSome r (λ x. StandsFirst (cells_left s) x (cells_left t))

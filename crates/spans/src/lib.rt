@@ -87,10 +87,11 @@ pub struct Spans<'a> {
 }
 
 impl<'a> Spans<'a> {
-    ghost use Rattle.spans.specs.Spans.{spans_left, spans_in};
+    ghost use Rattle.spans.specs.Spans.{spans_left, spans_in, cells_left};
 
     pub fn new(cells: &'a [PackedCell]) -> Spans<'a>
-        ensures { spans_left result ≡ spans_in cells.now }
+        ensures spans { spans_left result ≡ spans_in cells.now }
+        ensures place { cells_left result ≡ cells.now }
     {
         Spans { cells }
     }

@@ -3,6 +3,7 @@
 
 #![tactic(auto)]
 
+use meaning::Answer;
 use std::io;
 use std::io::Read;
 
@@ -10,6 +11,21 @@ const ROOM: u64 = 1099511627776;
 
 // What is read at once.
 const LUMP: usize = 65536;
+
+fn say_answer(rt: &impl Print, a: Answer) -> io::Result<()> {
+    let [
+        number,
+        place,
+        length,
+        subtitles,
+        comments,
+        continuations,
+        users,
+        spans,
+    ] = <[u64; 8]>::from(a);
+    println!(rt; "{number}\n{place}\n{length}\n{subtitles}")?;
+    println!(rt; "{comments}\n{continuations}\n{users}\n{spans}")
+}
 
 // Feeds what is read next, and tells whether it was the last.
 fn feed_next<R: Read>(reader: &mut R, store: &mut [u8], lump: &mut [u8]) -> io::Result<bool> {
@@ -35,8 +51,5 @@ fn main(rt: HostRuntime) -> io::Result<()> {
     let mode = input::read_mode(&mut stdin)?;
     streamed::open_check(&mut store, mode, ROOM);
     feed_input(&mut stdin, &mut store)?;
-    for n in <[u64; 8]>::from(streamed::close_check(&mut store)) {
-        println!(rt; "{n}")?;
-    }
-    Ok(())
+    say_answer(&rt, streamed::close_check(&mut store))
 }

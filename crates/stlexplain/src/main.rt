@@ -13,8 +13,7 @@ fn main(rt: HostRuntime) -> io::Result<()> {
         return println!(rt; "too long");
     };
     let r = explain::explain(&file[..n], mode, input::LIMIT);
-    for n in <[u64; 5]>::from(r) {
-        println!(rt; "{n}")?;
-    }
-    Ok(())
+    let [number, block, offset, presence, byte] = <[u64; 5]>::from(r);
+    println!(rt; "{number}\n{block}\n{offset}")?;
+    println!(rt; "{presence}\n{byte}")
 }

@@ -22,7 +22,7 @@ use Rattle.store.specs.Layout.{store_size, closed_phase, is_phase, numbers_in}
 use Rattle.store.specs.Phases.{phase_number, phase_from, is_closed}
 use Rattle.store.specs.Numbers.{number_at, time_from, header_from, set_from, current_from, pass_from, state_from, with_phase}
 use Rattle.store.specs.Stores.{state_of, check_in, is_check, check_of, closed_store}
-use Rattle.store.proofs.Phases.{closed_phase_is, is_phase-number, phase_from-number}
+use Rattle.store.proofs.Phases.{closed_phase_is, closed-phase, phase_from-closed}
 use Rattle.store.proofs.Places.{drop-after}
 use Rattle.store.proofs.Checks.{check_front}
 use Rattle.store.proofs.Stores.{check_size, check_sound, check_of_lem}
@@ -48,7 +48,7 @@ module _ (store : List ℕ) (size : length store ≡ store_size) where
 
   closed_phase_now : phase_from (number_at (numbers_in closed_now) 0) ≡ Closed
   unfolding phase_number
-  closed_phase_now = rw closed_numbers (phase_from-number Closed)
+  closed_phase_now = rw closed_numbers phase_from-closed
 
   pub close_state : state_of closed_now ≡ with_phase (state_of store) Closed
   unfolding words
@@ -63,8 +63,7 @@ module _ (store : List ℕ) (size : length store ≡ store_size) where
       ∙ check_front store (closed_phase ∷ []) (with_phase (state_of store) Closed) (omega arith)
 
   pub phase_closed : is_phase (number_at (numbers_in closed_now) 0) ≡ true
-  unfolding phase_number
-  phase_closed = rw closed_numbers (is_phase-number Closed)
+  phase_closed = rw closed_numbers closed-phase
 
 -- nothing else is asked of a closed check
 closed-sound : (c : Check) → is_sound (close c) ≡ is_sound c

@@ -15,9 +15,15 @@ use Rattle.std.specs.Prelude.{Option, Some, None}
 use Rattle.sets.specs.contracts.Set as set
 use Rattle.checking.specs.declared.blocks.Pass.{Pass}
 use Rattle.checking.specs.contracts.blocks.Pass as pass
+use Rattle.words.proofs.Laws.{IsWord}
+use Rattle.store.specs.declared.Phase.{Phase}
+use Rattle.store.specs.declared.Phase.TheVariants.{Open, Closed, Other}
 use Rattle.store.specs.declared.State.{State}
+use Rattle.store.specs.Phases.{phase_number}
 use Rattle.store.specs.Numbers.{set_in}
+use Rattle.store.specs.contracts.Phase as phase
 use Rattle.store.specs.contracts.State as state
+use Rattle.store.proofs.Phases.{open_phase_is, closed_phase_is}
 use Rattle.store.proofs.Ranges.{TimeRange, HeaderRange, SetRange, PassRange, InRange}
 
 known_time : (t : Time) (vs : List Val) → Is (struct.row time.the_type) t vs → TimeRange t
@@ -60,9 +66,17 @@ known-pass w vs k =
       users = omega arith;
     }
 
+-- a phase is a number of eight bytes
+known-phase : (p : Phase) (vs : List Val) → Is phase.the_row p vs → IsWord (phase_number p)
+unfolding phase_number
+known-phase Open vs k = omega (arith, open_phase_is)
+known-phase Closed vs k = omega (arith, closed_phase_is)
+known-phase (Other n) vs k = omega arith
+
 pub known_state : (s : State) (vs : List Val) → Is (struct.row state.the_type) s vs → InRange s
 known_state s vs k =
     record {
+      phase = known-phase s.phase _ k.1.1.0;
       mode = omega arith;
       room = omega arith;
       gsi = omega arith;

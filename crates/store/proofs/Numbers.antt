@@ -14,13 +14,9 @@ use Rattle.meaning.proofs.ListLaws.{All, nil, cons}
 use Rattle.words.proofs.Laws.{IsWord}
 use Rattle.sets.specs.declared.Set.{Set}
 use Rattle.std.specs.Prelude.{Option, Some, None}
-use Rattle.store.specs.declared.Phase.{Phase}
-use Rattle.store.specs.declared.Phase.TheVariants.{Open, Closed}
 use Rattle.store.specs.declared.State.{State}
 use Rattle.store.specs.Layout.{number_count}
-use Rattle.store.specs.Phases.{phase_number}
 use Rattle.store.specs.Numbers.{set_in, open_number, numbers_of, time_from, header_from, set_from, current_from, pass_from, state_from}
-use Rattle.store.proofs.Phases.{open_phase_is, closed_phase_is}
 use Rattle.store.proofs.Ranges.{TimeRange, HeaderRange, SetRange, InRange}
 
 pub numbers_length : (s : State) → length (numbers_of s) ≡ number_count
@@ -75,12 +71,7 @@ pub numbers_back : (s : State) → InRange s → state_from s.phase (numbers_of 
 unfolding numbers_of state_from pass_from current_from set_from header_from time_from
 numbers_back s r = rw (current_back s.pass.sets.current r.pass.set, mod-eq_of_lt r.pass.least)
 
--- a phase, and 0 and 1, are numbers of eight bytes
-phase_word : (p : Phase) → IsWord (phase_number p)
-unfolding phase_number
-phase_word Open = omega (arith, open_phase_is)
-phase_word Closed = omega (arith, closed_phase_is)
-
+-- 0 and 1 are numbers of eight bytes
 open_word : (c : Option Set) → IsWord (open_number c)
 unfolding open_number
 open_word None = omega arith
@@ -100,7 +91,7 @@ numbers_words s r =
     let h = w.set.first in
     let least : IsWord s.pass.sets.least = omega (arith, w.least) in
     let sn : IsWord (set_in s.pass.sets.current).first.sn = omega (arith, h.sn) in
-    cons (phase_word _) (cons r.mode (cons r.room (cons r.gsi (cons r.part (cons r.count
+    cons r.phase (cons r.mode (cons r.room (cons r.gsi (cons r.part (cons r.count
     (cons w.number (cons w.place (cons w.offset (cons least (cons (open_word _)
     (cons w.set.place (cons (byte_word _ h.sgn) (cons sn (cons (byte_word _ h.ebn) (cons (byte_word _ h.cs)
     (time_words h.tci (time_words h.tco

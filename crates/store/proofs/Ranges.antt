@@ -7,6 +7,7 @@ use Rattle.sets.specs.declared.Set.{Set}
 use Rattle.checking.specs.declared.blocks.Pass.{Pass}
 use Rattle.words.proofs.Laws.{IsWord}
 use Rattle.store.specs.declared.State.{State}
+use Rattle.store.specs.Phases.{phase_number}
 use Rattle.store.specs.Numbers.{set_in}
 
 pub record TimeRange (t : Time) : Type 0 where
@@ -44,6 +45,7 @@ pub record PassRange (w : Pass) : Type 0 where
   pub users : IsWord w.counts.users
 
 pub record InRange (s : State) : Type 0 where
+  pub phase : IsWord (phase_number s.phase)
   pub mode : IsWord s.mode
   pub room : IsWord s.room
   pub gsi : IsWord s.gsi

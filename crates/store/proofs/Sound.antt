@@ -27,10 +27,11 @@ use Rattle.feeding.specs.Sound.{is_short_so_far, is_within, is_sound}
 use Rattle.store.specs.declared.Phase.{Phase}
 use Rattle.store.specs.declared.State.{State}
 use Rattle.store.specs.Layout.{gsi_at, part_at, text_at, text_room, store_size, is_phase, numbers_in, marks_in}
-use Rattle.store.specs.Phases.{phase_from, phase_in}
+use Rattle.store.specs.Phases.{phase_number, phase_from, phase_in}
 use Rattle.store.specs.Numbers.{number_at, state_from}
 use Rattle.store.specs.Stores.{state_in, state_of, check_in, is_check}
-use Rattle.store.specs.Tests.{is_short_set, is_short_current, is_pass_over, is_sound_state}
+use Rattle.store.specs.Tests.{is_short_set, is_short_current, is_pass_over, is_sound_state, is_check_by}
+use Rattle.store.proofs.Phases.{phase_number-from}
 
 pub same_eqb : (a b c d : ℕ) → (c ≡ d → a ≡ b) → (a ≡ b → c ≡ d) → eqb a b ≡ eqb c d
 same_eqb a b c d f g =
@@ -75,6 +76,31 @@ module _ (store : List ℕ) (size : length store ≡ store_size) (s : State) whe
         same_eqb p 0 s.part 0 (λ h. omega arith) (λ h. omega arith),
         pass-over (min s.count most_blocks) s.pass (drop text_at store) (record { out = []; marks = marks_in store; tally = s.tally }) (omega arith) (length-drop text_at store ∙ rw size),
       )
+
+-- the phase of a store's numbers has its first number
+pub first_number : (store : List ℕ) {s : State} → s ≡ state_of store → phase_number s.phase ≡ number_at (numbers_in store) 0
+unfolding state_from
+first_number store e = ap (λ (t : State). phase_number t.phase) e ∙ phase_number-from (number_at (numbers_in store) 0)
+
+-- a store is that of a check by its size and its numbers
+pub check_tested : (store : List ℕ) {s : State} {b : Bool} → s ≡ state_of store → b ≡ is_check_by (length store) s → b ≡ is_check store
+unfolding is_check is_check_by
+check_tested store {s} e d =
+    let n = number_at (numbers_in store) 0 in
+    d ∙
+    by_test (eqb (length store) store_size)
+    (λ t.
+    let z : is_sound (check_in s store) ≡ is_sound_state s = sound_state store (eqb-true (length store) store_size t) s in
+    rw (t, first_number store e) (ap (λ (b : Bool). is_phase n && b) (sym z ∙ ap (λ (t : State). is_sound (check_in t store)) e)))
+    (λ t. rw t refl)
+
+pub state_tested : (store : List ℕ) {s : State} {b : Bool} → s ≡ state_of store → b ≡ is_check_by (length store) s → then_some b s ≡ state_in store
+state_tested store e d = ap₂ then_some (check_tested store e d) e
+
+-- a store of another size is that of none
+pub other_size : (store : List ℕ) → ¬ length store ≡ store_size → None ≡ state_in store
+unfolding is_check
+other_size store h = rw (ne_eqb (length store) store_size h) refl
 
 -- a store is that of a check by its first number, its size and the other numbers
 module _ (store : List ℕ) {n : ℕ} (e : n ≡ number_at (numbers_in store) 0) where

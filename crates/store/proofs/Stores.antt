@@ -2,7 +2,7 @@
 -- Assumes nothing.
 use Prim.Native.Nat.{ℕ, ◌≤◌}
 use native.Mathlib.Omega.{arith}
-use mathlib.Core.Path.{◌≡◌, ap, ◌∙◌}
+use mathlib.Core.Path.{◌≡◌, refl, ap, ◌∙◌}
 use mathlib.Core.Bool.{true, false, ◌&&◌}
 use mathlib.Core.List.{List}
 use Rattle.std.specs.Prelude.{Some, None}
@@ -16,24 +16,27 @@ use Rattle.words.specs.Words.{words_bytes}
 use Rattle.words.proofs.Laws.{words-kept}
 use Rattle.feeding.specs.Feeding.{Check}
 use Rattle.feeding.specs.Sound.{is_sound}
-use Rattle.store.specs.declared.Phase.{Phase}
 use Rattle.store.specs.declared.State.{State}
 use Rattle.store.specs.Layout.{store_size, is_phase, numbers_in}
-use Rattle.store.specs.Phases.{phase_from}
-use Rattle.store.specs.Numbers.{number_at, numbers_of, state_from}
+use Rattle.store.specs.Phases.{phase_number, phase_from}
+use Rattle.store.specs.Numbers.{number_at, numbers_of, state_from, with_phase}
 use Rattle.store.specs.Stores.{state_of, check_in, is_check, check_of}
 use Rattle.store.proofs.Ranges.{InRange}
 use Rattle.store.proofs.Numbers.{numbers_back, numbers_words}
-use Rattle.store.proofs.Phases.{is_phase-number, phase_from-number}
+use Rattle.store.proofs.Phases.{is_closed-from}
 use Rattle.store.proofs.Checks.{check_put}
 
--- the numbers that were written are read
-pub state_put : (store : List ℕ) (s : State) → store_size ≤ length store → InRange s → state_of (stored store 0 (words_bytes (numbers_of s))) ≡ s
-unfolding numbers_of
-state_put store s h r =
-    ap (λ (ns : List ℕ). state_from (phase_from (number_at ns 0)) ns) (words-kept store (numbers_of s) (omega arith) (numbers_words s r))
-    ∙ ap (λ (p : Phase). state_from p (numbers_of s)) (phase_from-number s.phase)
-    ∙ numbers_back s r
+-- the numbers that were written are read, and the phase is the one that its number tells
+module _ (store : List ℕ) (s : State) (h : store_size ≤ length store) (r : InRange s) where
+  state_written : state_of (stored store 0 (words_bytes (numbers_of s))) ≡ with_phase s (phase_from (phase_number s.phase))
+  unfolding numbers_of state_from
+  state_written =
+      let p = phase_from (phase_number s.phase) in
+      ap (λ (ns : List ℕ). state_from (phase_from (number_at ns 0)) ns) (words-kept store (numbers_of s) (omega arith) (numbers_words s r))
+      ∙ ap (λ (t : State). with_phase t p) (numbers_back s r)
+
+  pub state_put : phase_from (phase_number s.phase) ≡ s.phase → state_of (stored store 0 (words_bytes (numbers_of s))) ≡ s
+  state_put e = state_written ∙ ap (with_phase s) e
 
 -- what is known of the store of a check
 module _ (store : List ℕ) (e : is_check store ≡ true) where
@@ -67,20 +70,26 @@ module _ (store : List ℕ) (s : State) (size : length store ≡ store_size) (r 
   abbrev saved : List ℕ
   saved = stored store 0 (words_bytes (numbers_of s))
 
-  state_saved : state_of saved ≡ s
-  state_saved = state_put store s (omega arith) r
+  -- whether a check is closed is told by the number of its phase
+  same_phase : check_in (with_phase s (phase_from (phase_number s.phase))) store ≡ check_in s store
+  unfolding check_in
+  same_phase = rw (is_closed-from s.phase) refl
 
   check_in_saved : check_in (state_of saved) saved ≡ check_in s store
-  check_in_saved = ap (λ (t : State). check_in t saved) state_saved ∙ check_put store s s
+  check_in_saved =
+      ap (λ (t : State). check_in t saved) (state_written store s (omega arith) r)
+      ∙ check_put store s (with_phase s (phase_from (phase_number s.phase)))
+      ∙ same_phase
 
-  phase_saved : is_phase (number_at (numbers_in saved) 0) ≡ true
-  unfolding numbers_of
-  phase_saved = rw (words-kept store (numbers_of s) (omega arith) (numbers_words s r)) (is_phase-number s.phase)
+  module _ (p : is_phase (phase_number s.phase) ≡ true) (k : is_sound (check_in s store) ≡ true) where
+    phase_saved : is_phase (number_at (numbers_in saved) 0) ≡ true
+    unfolding numbers_of
+    phase_saved = rw (words-kept store (numbers_of s) (omega arith) (numbers_words s r)) p
 
-  pub is_check_saved : is_sound (check_in s store) ≡ true → is_check saved ≡ true
-  unfolding is_check
-  is_check_saved k =
-      rw (eq-eqb (length saved) store_size (length-stored store 0 (words_bytes (numbers_of s)) ∙ size), phase_saved, state_saved, check_put store s s, k)
+    pub is_check_saved : is_check saved ≡ true
+    unfolding is_check
+    is_check_saved =
+        rw (eq-eqb (length saved) store_size (length-stored store 0 (words_bytes (numbers_of s)) ∙ size), phase_saved, check_in_saved, k)
 
-  pub check_saved : is_sound (check_in s store) ≡ true → check_of saved ≡ Some (check_in s store)
-  check_saved k = check_of_lem saved (is_check_saved k) ∙ ap Some check_in_saved
+    pub check_saved : check_of saved ≡ Some (check_in s store)
+    check_saved = check_of_lem saved is_check_saved ∙ ap Some check_in_saved

@@ -10,7 +10,8 @@ use Rattle.sets.specs.declared.Set.{Set}
 use Rattle.checking.specs.declared.blocks.Pass.{Pass}
 use Rattle.meaning.specs.Gsi.{most_blocks}
 use Rattle.store.specs.declared.State.{State}
-use Rattle.store.specs.Layout.{text_room}
+use Rattle.store.specs.Layout.{text_room, store_size, is_phase}
+use Rattle.store.specs.Phases.{phase_number}
 
 -- the set that is open after n blocks
 unfoldable pub is_short_set : ℕ → Set → Bool
@@ -31,3 +32,7 @@ is_sound_state s =
     && leb s.count (suc most_blocks)
     && (leb gsi_size s.gsi || (eqb s.part 0 && eqb s.count 0))
     && is_pass_over (min s.count most_blocks) s.pass
+
+-- a store of this size that has these numbers is that of a check
+unfoldable pub is_check_by : ℕ → State → Bool
+is_check_by size s = eqb size store_size && is_phase (phase_number s.phase) && is_sound_state s

@@ -14,13 +14,16 @@ mod loading;
 mod saving;
 mod testing;
 
-pub use loading::state_in;
+pub use loading::{state_in, state_of};
 pub use saving::put_state;
+pub use testing::is_check;
 
+// What the first number of a store tells. Any store has one: `Other` is that of a store that holds no check.
 #[derive(Clone, Copy, PartialEq, Eq)]
 pub enum Phase {
     Open,
     Closed,
+    Other(u64),
 }
 
 // The numbers of a check: whether it is open or closed, break mode, room, the bytes of the GSI block so far and of the block that is not whole yet,
@@ -69,7 +72,19 @@ impl From<Phase> for u64 {
         match phase {
             Phase::Open => OPEN,
             Phase::Closed => CLOSED,
+            Phase::Other(number) => number,
         }
+    }
+}
+
+impl From<u64> for Phase {
+    ghost use Rattle.store.specs.Phases.{phase_from};
+
+    ghost from_gives = { λ n p. p ≡ phase_from n };
+
+    #[tactic(auto, using(crate::proofs::Phases::phase_or_other))]
+    fn from(number: u64) -> Phase {
+        Phase::of(number).unwrap_or(Phase::Other(number))
     }
 }
 

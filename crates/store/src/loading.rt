@@ -3,9 +3,9 @@
 ghost use Rattle.std.specs.Prelude.{◌≡◌, ◌+◌, ◌%◌, ◌<◌};
 ghost use Rattle.store.specs.Layout.{number_count, numbers_in};
 ghost use Rattle.store.specs.Numbers.{time_from, header_from, set_from, current_from, pass_from, state_from};
-ghost use Rattle.store.specs.Stores.{state_in};
+ghost use Rattle.store.specs.Stores.{state_of, state_in};
 
-use crate::testing::is_sound;
+use crate::testing::is_check;
 use crate::{NUMBERS, Phase, SIZE, State};
 use checking::Pass;
 use meaning::{Counts, Header, Refusal, Time};
@@ -125,13 +125,23 @@ fn state_from(phase: Phase, numbers: &[u64; NUMBERS]) -> State
     }
 }
 
+// The numbers of a check, from the front of any store.
+pub fn state_of(store: &[u8]) -> State
+    ensures { result ≡ state_of store.now }
+{
+    let numbers = numbers_in(store);
+    state_from(Phase::from(numbers[0]), &numbers)
+}
+
 // The numbers at the front of a store, if it is that of a check.
-#[tactic(auto, using(crate::proofs::Sound::state_none, crate::proofs::Sound::state_held))]
+#[tactic(auto, using(crate::proofs::Sound::state_tested, crate::proofs::Sound::other_size))]
 pub fn state_in(store: &[u8]) -> Option<State>
     ensures { result ≡ state_in store.now }
 {
-    let numbers = numbers_in(store);
-    let phase = Phase::of(numbers[0])?;
-    let state = state_from(phase, &numbers);
-    (store.len() == SIZE && is_sound(state)).then_some(state)
+    // The size first: of a store of that size the compiled code reads all numbers at once, with no test for each.
+    if store.len() != SIZE {
+        return None;
+    }
+    let state = state_of(store);
+    is_check(store.len(), state).then_some(state)
 }

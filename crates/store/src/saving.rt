@@ -72,7 +72,8 @@ fn numbers_of(s: State) -> [u64; NUMBERS]
     ]
 }
 
-// The numbers of a check are written at the front of the store.
+// The numbers of a check are written at the front of the store. Inline, or each call would copy them first.
+#[inline(always)]
 pub fn put_state(store: &mut [u8], s: State)
     ensures { store.new ≡ stored store.old 0 (words_bytes (numbers_of s)) }
 {

@@ -1,11 +1,11 @@
-// Whether numbers are those of a check: no other part of a store is looked at.
+// Whether a store holds a check, asked of its size and its numbers: no other part of it is looked at.
 
 ghost use Rattle.std.specs.Prelude.{◌≡◌};
 ghost use Rattle.meaning.specs.Walk.{total};
 ghost use Rattle.output.specs.Output.{past};
-ghost use Rattle.store.specs.Tests.{is_short_set, is_short_current, is_pass_over, is_sound_state};
+ghost use Rattle.store.specs.Tests.{is_short_set, is_short_current, is_pass_over, is_sound_state, is_check_by};
 
-use crate::{MOST_BLOCKS, State};
+use crate::{MOST_BLOCKS, Phase, SIZE, State};
 use checking::Pass;
 use meaning::{BLOCK_SIZE, Counts, GSI_SIZE, TEXT_SIZE};
 use sets::{Set, Sets};
@@ -47,10 +47,18 @@ fn is_pass_over(n: usize, w: Pass) -> bool
 }
 
 #[tactic(auto, unfolding(crate::specs::Tests::is_sound_state))]
-pub(crate) fn is_sound(s: State) -> bool
+fn is_sound(s: State) -> bool
     ensures { result ≡ is_sound_state s }
 {
     let short = s.gsi <= GSI_SIZE && s.part < BLOCK_SIZE && s.count <= MOST_BLOCKS + 1;
     let begun = GSI_SIZE <= s.gsi || s.part == 0 && s.count == 0;
     short && begun && is_pass_over(s.count.min(MOST_BLOCKS), s.pass)
+}
+
+// Whether a store of this size that has these numbers is that of a check. The phase is asked of its number: `Other` may hold any.
+#[tactic(auto, using(crate::proofs::Phases::phase_is_some), unfolding(crate::specs::Tests::is_check_by))]
+pub fn is_check(size: usize, s: State) -> bool
+    ensures { result ≡ is_check_by size s }
+{
+    size == SIZE && Phase::of(u64::from(s.phase)).is_some() && is_sound(s)
 }

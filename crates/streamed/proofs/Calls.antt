@@ -4,8 +4,9 @@ use Prim.Native.Nat.{ℕ}
 use native.Mathlib.Omega.{arith}
 use mathlib.Core.Path.{◌≡◌, refl, sym, ap, ◌∙◌}
 use mathlib.Core.Bool.{Bool, true, false, cond, not}
+use mathlib.Core.Logic.{⊎_elim}
 use mathlib.Core.List.{List, [], ◌∷◌}
-use Rattle.std.specs.Prelude.{Option, Some, None}
+use Rattle.std.specs.Prelude.{◌⊎◌, Option, Some, None}
 use lib.Dec.{eqb}
 use lib.ListN.{length, length-replicate}
 use borrow.Author.Tests.{eq-eqb}
@@ -31,20 +32,20 @@ use Rattle.feeding.specs.Sound.{is_sound}
 use Rattle.feeding.proofs.Sound.{opened-sound}
 use Rattle.lumps.specs.Lumps.{rule_now, answer_now, feed}
 use Rattle.lumps.proofs.Cutting.{feed-fed}
-use denote.Enum.Bare.{sameb}
-use Rattle.store.specs.contracts.Phase as phase
+use Rattle.store.specs.contracts.PhasePartialEq.TheImpl as phase_eq
 use Rattle.store.specs.declared.Phase.{Phase}
 use Rattle.store.specs.declared.Phase.TheVariants.{Open, Closed}
 use Rattle.store.specs.declared.State.{State}
-use Rattle.store.specs.Layout.{marks_at, store_size, marks_in, text_in}
-use Rattle.store.specs.Numbers.{numbers_of}
+use Rattle.store.specs.Layout.{marks_at, store_size, is_phase, marks_in, text_in}
+use Rattle.store.specs.Numbers.{numbers_of, state_from}
 use Rattle.store.specs.Phases.{phase_number, is_closed}
 use Rattle.store.specs.Stores.{state_of, state_in, check_in, is_check, check_of}
 use Rattle.store.specs.Tests.{is_sound_state}
-use Rattle.store.proofs.Sound.{sound_state}
+use Rattle.store.proofs.Phases.{open_phase_lem, two_phases}
+use Rattle.store.proofs.Sound.{sound_state, first_number}
 use Rattle.store.proofs.Ranges.{InRange}
 use Rattle.store.proofs.Checks.{marks-here}
-use Rattle.store.proofs.Stores.{check_of_lem, check_none, check_saved, check_size, check_sound}
+use Rattle.store.proofs.Stores.{check_of_lem, check_none, check_saved, check_size, check_phase, check_sound}
 use Rattle.store.proofs.Closing.{close_put}
 use Rattle.streamed.specs.Checks.{begun_state, opened_in, fed_in, closed_in, answer_in, is_running, opened_store, store_closed}
 
@@ -79,23 +80,9 @@ module _ (c : Check) where
   close-ended e =
       ap (λ (b : Bool). record { mode = c.mode; room = c.room; gsi = c.gsi; part = c.part; count = c.count; outcome = c.outcome; ended = b }) (sym e)
 
--- a phase that is not the closed one, and one that is, as they are compared
-pub is-open : (p : Phase) → false ≡ sameb phase.the_type p Closed → p ≡ Open
-is-open Open e = refl
-is-open Closed e = absurd (false≢true e)
-
-pub is-closed : (p : Phase) → true ≡ sameb phase.the_type p Closed → p ≡ Closed
-is-closed Open e = absurd (false≢true (sym e))
-is-closed Closed e = refl
-
--- and as they are compared with the open one
-pub opened-phase : (p : Phase) → true ≡ sameb phase.the_type p Open → p ≡ Open
-opened-phase Open e = refl
-opened-phase Closed e = absurd (false≢true (sym e))
-
-pub other-phase : (p : Phase) → false ≡ sameb phase.the_type p Open → p ≡ Closed
-other-phase Open e = absurd (false≢true e)
-other-phase Closed e = refl
+-- the derived comparison
+abbrev same : Phase → Phase → Bool
+same = phase_eq.ghosts.eq
 
 -- a store that holds a check, with its numbers
 module _ (store : List ℕ) {s : State} (v : state_in store ≡ Some s) where
@@ -111,6 +98,26 @@ module _ (store : List ℕ) {s : State} (v : state_in store ≡ Some s) where
 
   pub held_sound : is_sound_state s ≡ true
   held_sound = sym (sound_state store held_size s) ∙ rw known.1 (check_sound store known.0)
+
+  pub held_phase : is_phase (phase_number s.phase) ≡ true
+  held_phase = rw (first_number store known.1) (check_phase store known.0)
+
+  phase_here : (s.phase ≡ Open) ⊎ (s.phase ≡ Closed)
+  unfolding state_from
+  phase_here = rw known.1 (two_phases _ (check_phase store known.0))
+
+  -- what the two comparisons tell of its phase
+  pub is-open : {b : Bool} → b ≡ same s.phase Closed → b ≡ false → s.phase ≡ Open
+  is-open e f = ⊎_elim (λ o. o) (λ c. absurd (false≢true (sym f ∙ e ∙ ap (λ (p : Phase). same p Closed) c))) phase_here
+
+  pub is-closed : {b : Bool} → b ≡ same s.phase Closed → b ≡ true → s.phase ≡ Closed
+  is-closed e f = ⊎_elim (λ o. absurd (false≢true (sym (ap (λ (p : Phase). same p Closed) o) ∙ sym e ∙ f))) (λ c. c) phase_here
+
+  pub opened-phase : {b : Bool} → b ≡ same s.phase Open → b ≡ true → s.phase ≡ Open
+  opened-phase e f = ⊎_elim (λ o. o) (λ c. absurd (false≢true (sym (ap (λ (p : Phase). same p Open) c) ∙ sym e ∙ f))) phase_here
+
+  pub other-phase : {b : Bool} → b ≡ same s.phase Open → b ≡ false → s.phase ≡ Closed
+  other-phase e f = ⊎_elim (λ o. absurd (false≢true (sym f ∙ e ∙ ap (λ (p : Phase). same p Open) o))) (λ c. c) phase_here
 
   check_here : check_of store ≡ Some (check_in s store)
   check_here = rw known.1 (check_of_lem store known.0)
@@ -178,13 +185,13 @@ pub opened_now :
     (store : List ℕ) (mode room : ℕ) {s : State} {store1 after : List ℕ} → length store ≡ store_size → s ≡ begun_state mode room → InRange s
     → store1 ≡ stored store marks_at (flags_bytes empty_body.marks) → after ≡ stored store1 0 (words_bytes (numbers_of s))
     → Opened mode room store after
-unfolding opened_in opened_store
+unfolding opened_in opened_store phase_number
 opened_now store mode room {s} {store1} l e i d f =
     let n : length store1 ≡ store_size = ap length d ∙ length-stored store marks_at (flags_bytes empty_body.marks) ∙ l in
     let m : marks_in store1 ≡ empty_body.marks = rw d (marks-here store empty_body.marks (length-replicate look_count false) (omega arith)) in
     let c : check_in s store1 ≡ opened mode room = rw e (begun_check mode room store1 m) in
     let h : is_sound (check_in s store1) ≡ true = rw c (opened-sound mode room) in
     let t = eq-eqb (length store) store_size l in (
-      ap check_of f ∙ check_saved store1 s n i h ∙ ap Some c ∙ sym (ap (λ (b : Bool). cond b (Some (opened mode room)) None) t),
+      ap check_of f ∙ check_saved store1 s n i (rw e open_phase_lem) h ∙ ap Some c ∙ sym (ap (λ (b : Bool). cond b (Some (opened mode room)) None) t),
       rw t (f ∙ rw (d, e) refl),
     )

@@ -2,7 +2,8 @@
 
 ghost use Rattle.std.specs.Prelude.{◌≡◌, ◌+◌, ◌/◌, true, length};
 ghost use Rattle.meaning.specs.Blocks.{gsi_size, block_size};
-ghost use Rattle.store.specs.Layout.{store_size};
+ghost use Rattle.store.specs.Layout.{store_size, is_phase};
+ghost use Rattle.store.specs.Phases.{phase_number};
 ghost use Rattle.store.specs.Tests.{is_sound_state};
 
 use crate::parts::{marks, put_behind};
@@ -20,6 +21,7 @@ pub(crate) struct WholeGsi<'a> {
     pub store: &'a mut [u8],
     pub state: State,
     ghost size: { length store.now ≡ store_size },
+    ghost phase: { is_phase (phase_number state.phase) ≡ true },
     ghost sound: { is_sound_state state ≡ true },
     ghost gsi: { state.gsi ≡ gsi_size },
 }

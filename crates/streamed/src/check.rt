@@ -2,7 +2,8 @@
 
 ghost use Rattle.std.specs.Prelude.{◌≡◌, ◌&&◌, true, Some, leb, eqb, length};
 ghost use Rattle.meaning.specs.Blocks.{gsi_size};
-ghost use Rattle.store.specs.Layout.{store_size};
+ghost use Rattle.store.specs.Layout.{store_size, is_phase};
+ghost use Rattle.store.specs.Phases.{phase_number};
 ghost use Rattle.store.specs.Tests.{is_sound_state};
 
 use crate::blocks::WholeGsi;
@@ -16,6 +17,7 @@ pub(crate) struct StoredCheck<'a> {
     pub store: &'a mut [u8],
     pub state: State,
     ghost size: { length store.now ≡ store_size },
+    ghost phase: { is_phase (phase_number state.phase) ≡ true },
     ghost sound: { is_sound_state state ≡ true },
 }
 

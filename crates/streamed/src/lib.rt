@@ -57,7 +57,7 @@ pub fn open_check(store: &mut [u8], mode: u64, room: u64)
 }
 
 // A lump of the file, empty or not. A store that is none of an open check stays as it is.
-#[tactic(auto, using(crate::proofs::Calls::held_size, crate::proofs::Calls::held_sound))]
+#[tactic(auto, using(crate::proofs::Calls::held_size, crate::proofs::Calls::held_phase, crate::proofs::Calls::held_sound))]
 pub fn feed_check(store: &mut [u8], lump: &[u8])
     ensures check { check_of store.new ≡ fed_in (check_of store.old) lump.now }
     ensures kept { is_running (check_of store.old) ≡ false → store.new ≡ store.old }
@@ -74,7 +74,7 @@ pub fn feed_check(store: &mut [u8], lump: &[u8])
 }
 
 // The answer on the file so far. The check is closed then, and the answer stays.
-#[tactic(auto, using(crate::proofs::Calls::held_size, crate::proofs::Calls::held_sound))]
+#[tactic(auto, using(crate::proofs::Calls::held_size, crate::proofs::Calls::held_phase, crate::proofs::Calls::held_sound))]
 pub fn close_check(store: &mut [u8]) -> Answer
     ensures answer { result ≡ answer_in (check_of store.old) }
     ensures check { check_of store.new ≡ closed_in (check_of store.old) }

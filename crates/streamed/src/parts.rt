@@ -13,7 +13,7 @@ pub(crate) fn put_behind(store: &mut [u8], at: usize, size: usize, bytes: &[u8])
     ensures size { result ≡ size + length bytes.now }
     ensures store { store.new ≡ stored store.old (at + size) bytes.now }
 {
-    output::put_at(store, at + size, bytes);
+    output::put_bytes(store, at + size, bytes);
     size + bytes.len()
 }
 

@@ -1,6 +1,6 @@
 -- Rows and filler lines together are the content of a text; a text within the rules is not cut.
 -- Assumes nothing.
-use Prim.Native.Nat.{ℕ, suc, ◌<◌, min}
+use Prim.Native.Nat.{ℕ, suc, ◌-◌, ◌≤◌, ◌<◌, min}
 use native.Mathlib.Omega.{arith}
 use mathlib.Core.Path.{◌≡◌, refl, ap, ◌∙◌}
 use mathlib.Core.Bool.{Bool, true, false, ◌&&◌}
@@ -30,6 +30,12 @@ use Rattle.rows.specs.Scanning.{count_limit}
 use Rattle.text.specs.declared.BodyWriter.{BodyWriter}
 use Rattle.text.specs.Laid.{cut_row, content_of, PiecesLaid, RowsDone}
 use Rattle.text.proofs.Laws.{pieces_then}
+
+-- Where rows cover all lines there are none to fill. `filler_lines` needs it no more, since it subtracts down to 0 at once; this stands for a caller that
+-- asks by a test.
+pub no_fillers : (end vp : ℕ) (covered : Lines) → end - vp ≤ covered.0 → record { 0 = 0 } ≡ fillers end vp covered
+unfolding fillers
+no_fillers end vp covered h = let z : 0 ≡ end - vp - covered.0 = omega arith in ap (λ (n : ℕ). record { 0 = n }) z
 
 -- rows beyond the limit leave no filler line
 fillers-capped : (end vp : ℕ) → end < count_limit → (double : Bool) (n : ℕ) → (fillers end vp (lines_of double (record { 0 = min n count_limit }))).0 ≡ (fillers end vp (lines_of double (record { 0 = n }))).0

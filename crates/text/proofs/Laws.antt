@@ -1,12 +1,12 @@
--- Laying pieces one after another: two layings are one.
+-- Laying pieces one after another: two layings are one, and a loop seen from the pieces that are left.
 -- Assumes nothing.
 use Prim.Native.Nat.{ℕ, zero, suc, ◌+◌, ◌<◌, ◌^◌}
 use native.Mathlib.Numerals.{add-one}
 use native.Mathlib.Omega.{arith}
-use mathlib.Core.Path.{◌≡◌, refl, sym, ◌∙◌}
+use mathlib.Core.Path.{◌≡◌, refl, sym, ap, ◌∙◌}
 use mathlib.Core.Bool.{Bool, true}
 use mathlib.Core.List.{List, [], ◌∷◌, ◌++◌, append-nil, flat_map}
-use lib.ListN.{length, set, take, get_or, replicate, length-append}
+use lib.ListN.{length, set, take, get_or, replicate, length-append, length-set}
 use lib.Seq.{take-suc}
 use Rattle.std.specs.Prelude.{Some, None}
 use Rattle.std.proofs.lemmas.List.{map-append}
@@ -51,6 +51,17 @@ pub ◌then◌ : {a b c : BodyWriter} {xs ys ls ms : List ℕ} → Laid a xs ls 
       same = q.same ∙ p.same;
     }
 
+-- what was lent keeps its length: a caller's buffer and marks are as long as they were. The functions here say more, that they are the same ones (`writer`,
+-- `same`), so no proof needs it.
+marked-length : (on : List Bool) (ls : List ℕ) → length (marked_with on ls) ≡ length on
+unfolding marked_with
+marked-length on [] = refl
+marked-length on (l ∷ ls) = marked-length (set on l true) ls ∙ length-set on l true
+
+pub laid_lengths :
+    {a b : BodyWriter} {xs ls : List ℕ} → Laid a xs ls b → (length b.writer.now.out.now ≡ length a.writer.now.out.now) × (length b.marks.now ≡ length a.marks.now)
+laid_lengths {a} {ls = ls} p = (wrote-length p.wrote.wrote, ap length p.marks ∙ marked-length a.marks.now ls)
+
 -- bytes put after what is laid, without a span
 pub record Keeps (a b : BodyWriter) : Type 0 where
   pub spans : b.spans ≡ a.spans
@@ -77,6 +88,22 @@ laid-here {b = b} p = laid-nothing b (omega (arith, wrote-length p.wrote.wrote, 
 -- pieces laid after others; the breaks among them have no looks
 pub pieces_then : {a b c : BodyWriter} (ps qs : List Piece) → PiecesLaid a ps b → PiecesLaid b qs c → PiecesLaid a (ps ++ qs) c
 pieces_then ps qs p q = rw (join_append write_piece ps qs, looks-append ps qs) (p then q)
+
+-- whoever lays the rest from here on has laid the whole
+pub record LaidLeft (a : BodyWriter) (whole : List Piece) (b : BodyWriter) (rest : List Piece) : Type 0 where
+  pub here : Laid b [] [] b
+  pub onward : {c : BodyWriter} → PiecesLaid b rest c → PiecesLaid a whole c
+
+pub left-all : {a : BodyWriter} (whole : List Piece) → Laid a [] [] a → LaidLeft a whole a whole
+left-all whole h = record { here = h; onward = λ {c} l. l }
+
+pub left_less :
+    {a b c : BodyWriter} {whole : List Piece} (ps rest : List Piece) → LaidLeft a whole b (ps ++ rest) → PiecesLaid b ps c → LaidLeft a whole c rest
+left_less ps rest l p = record { here = laid-here p; onward = λ {c} q. l.onward (pieces_then ps rest p q) }
+
+pub left-none : {a b : BodyWriter} {whole : List Piece} → LaidLeft a whole b [] → PiecesLaid a whole b
+unfolding flat_map looks_of
+left-none l = l.onward l.here
 
 of_breaks : (n : ℕ) → looks_of (replicate n br) ≡ []
 unfolding looks_of

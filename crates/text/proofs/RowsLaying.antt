@@ -18,7 +18,7 @@ use Rattle.meaning.specs.Codes.{tokens}
 use Rattle.meaning.specs.Looks.{unpack}
 use Rattle.meaning.specs.Cells.{Cell, points, cells_of_row, look_after_row, cell_rows}
 use Rattle.meaning.specs.Spans.{spans}
-use Rattle.meaning.specs.Document.{Piece, looks_of}
+use Rattle.meaning.specs.Document.{Piece}
 use Rattle.meaning.specs.Document.Piece.{span, br}
 use Rattle.meaning.specs.Conversion.{span_of, row_spans, later_rows, row_pieces}
 use Rattle.meaning.specs.Rows.{first_row, rows_of, row_limit}
@@ -36,8 +36,8 @@ use Rattle.cells.proofs.Laws.{decoded-cells, decoded-look}
 use Rattle.spans.specs.declared.Span.{Span}
 use Rattle.spans.specs.Spans.{with_look, read_of}
 use Rattle.text.specs.declared.BodyWriter.{BodyWriter}
-use Rattle.text.specs.Laid.{cut_row, Laid, PiecesLaid, RowDone, RowsDone, piece_of}
-use Rattle.text.proofs.Laws.{laid-here, pieces_then}
+use Rattle.text.specs.Laid.{cut_row, PiecesLaid, RowDone, RowsDone, piece_of}
+use Rattle.text.proofs.Laws.{laid-here, pieces_then, LaidLeft, left_less, left-none}
 
 -- the pieces of spans that were read, where they are all spans of some cells
 abbrev piece_with : List Cell × ℕ → Piece
@@ -80,8 +80,7 @@ module _ (text : List ℕ) (before : ℕ) (paired : Bool) where
   pub record RowsLeft (a b : BodyWriter) (r : RowRead) (n : ℕ) : Type 0 where
     pub start : ℕ
     pub end : r.after ≡ row_end_after text start
-    pub here : Laid b [] [] b
-    pub onward : {c : BodyWriter} → PiecesLaid b (after (unpack r.look) (row_from start)) c → PiecesLaid a whole c
+    pub left : LaidLeft a whole b (after (unpack r.look) (row_from start))
     pub count : min (n + length (rows_after paired (row_from start))) count_limit ≡ min (length (rows_of paired (tokens text))) count_limit
     pub few : n ≤ count_limit
 
@@ -93,12 +92,15 @@ module _ (text : List ℕ) (before : ℕ) (paired : Bool) where
       record {
         start = 0;
         end = d.after;
-        here = laid-here d.laid;
-        onward =
-            λ {c} l.
-            rw (rows-first paired ts)
-            (pieces_then (map span (row_spans (cut_row (cells_of_row (unpack before) (first_row ts))))) (after (look_after_row (unpack before) (first_row ts)) ts) d.laid
-            (rw d.look at l));
+        left =
+            record {
+              here = laid-here d.laid;
+              onward =
+                  λ {c} l.
+                  rw (rows-first paired ts)
+                  (pieces_then (map span (row_spans (cut_row (cells_of_row (unpack before) (first_row ts))))) (after (look_after_row (unpack before) (first_row ts)) ts) d.laid
+                  (rw d.look at l));
+            };
         count = rw (rows-first paired ts) (ap (λ (n : ℕ). min n count_limit) (omega arith));
         few = omega arith;
       }
@@ -119,24 +121,21 @@ module _ (text : List ℕ) (before : ℕ) (paired : Bool) where
         record {
           start = start;
           end = d.after;
-          here = laid-here d.laid;
-          onward =
-              λ {c} p.
-              l.onward
-              (rw o
-              (pieces_then (br ∷ map span (row_spans (cut_row (cells_of_row (unpack r.look) (first_row us))))) (after (look_after_row (unpack r.look) (first_row us)) us)
-              (pieces_then (br ∷ []) (map span (row_spans (cut_row (cells_of_row (unpack r.look) (first_row us))))) w d.laid) (rw d.look at p)));
+          left =
+              rw d.look
+              (left_less (br ∷ map span (row_spans (cut_row (cells_of_row (unpack r.look) (first_row us))))) (after (look_after_row (unpack r.look) (first_row us)) us)
+              (rw o at l.left) (pieces_then (br ∷ []) (map span (row_spans (cut_row (cells_of_row (unpack r.look) (first_row us))))) w d.laid));
           count = rw k (omega (arith, l.count, size));
           few = omega arith;
         }
 
     -- no row is left
     pub rows_none : {m : Rows} → r.after ≡ None → m.0 ≡ n → RowsDone text before paired a b m
-    unfolding later_rows cell_rows flat_map looks_of
+    unfolding later_rows cell_rows
     rows_none e k =
         let o = no_rows_after paired (row_from l.start) (not_ended text l.start l.end e) in
         let c : length (rows_after paired (row_from l.start)) ≡ 0 = ap length o in
         record {
-          laid = l.onward (rw o l.here);
+          laid = left-none (rw o at l.left);
           count = omega (arith, l.count, l.few, c, k);
         }

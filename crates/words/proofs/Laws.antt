@@ -87,6 +87,11 @@ pub field_far : (s : List ℕ) (k : ℕ) → length s < 2 ^ 64 → field (min k 
 unfolding field
 field_far s k h = ap (take 8) (drop_past s k h)
 
+-- past the end there is no byte, and a number there is 0
+pub word_past : (s : List ℕ) (i : ℕ) → length s ≤ 8 * i → word_at i s ≡ 0
+unfolding word_at field value_of
+word_past s i h = rw (drop_of_length-le s h)
+
 -- the list of the numbers has each number at its place
 pub words-read : (n : ℕ) (s : List ℕ) (i : ℕ) → i < n → get_or (words n s) i 0 ≡ word_at i s
 unfolding words word_at field

@@ -9,7 +9,7 @@ ghost use Rattle.sets.specs.Assembling.{assembly_of, has_room, room_for};
 ghost use Rattle.closed.specs.Body.{body_of, LaysAs, Lays};
 ghost use Rattle.writing.specs.Laying.{lay_event, lay_blocks, laying_of};
 
-use closed::{lay, with_text_room};
+use closed::lay;
 use meaning::Format;
 use sets::{PlacedBlock, Sets, Step};
 use text::BodyWriter;
@@ -51,5 +51,11 @@ fn write_all(file: &[u8], n: usize, f: Format, text: &mut [u8], body: &mut BodyW
 pub fn write_blocks(file: &[u8], n: usize, f: Format, body: &mut BodyWriter)
     ensures { Lays body.old (lay_blocks f file.now (body_of body.old) n).body body.new }
 {
-    with_text_room(n, body, |text, body| write_all(file, n, f, text, body))
+    // The same lines as in `checking::check_blocks`, where it is said why no function chooses for both passes.
+    if n <= Sets::FEW {
+        let mut text = [0u8; Sets::FEW_ROOM];
+        return write_all(file, n, f, &mut text, body);
+    }
+    let mut text = [0u8; Sets::ROOM];
+    write_all(file, n, f, &mut text, body)
 }

@@ -12,13 +12,14 @@ returns-in_default c =
 
 pub returns-then-eq : goal.returns-then-eq
 returns-then-eq c =
-    let r = fed-closed c.args.store.now (sym c.state_in.ensures ∙ c.in-Some.is) (is-closed _ c.if-eq.ensures) c.args.lump.now in
+    let v = sym c.state_in.ensures ∙ c.in-Some.is in
+    let r = fed-closed c.args.store.now v (is-closed c.args.store.now v c.eq.ensures c.if-eq.true) c.args.lump.now in
     record { check = r.0; kept = r.1 }
 
 pub returns : goal.returns
 returns c =
     let v = sym c.state_in.ensures ∙ c.in-Some.is in
-    let z = is-open _ c.if-eq.ensures in
+    let z = is-open c.args.store.now v c.eq.ensures c.if-eq.false in
     record {
       check = (fed_open c.args.store.now v z c.args.lump.now c.feed.ensures.fed (search rules)).0;
       kept = (fed_open c.args.store.now v z c.args.lump.now c.feed.ensures.fed (search rules)).1;

@@ -19,7 +19,7 @@ pub loop-row-preserved : goal.loop-row-preserved
 loop-row-preserved c =
     let l = c.loop-row.invariant in
     rows_less _ _ _ l c.in-Some.is c.row_after-start.ensures
-    (break_laid (laid-spans l.here) c.put_break.ensures (record { spans = refl; marks = refl; writer = refl; same = refl })) c.lay_row-row-in-Some.ensures c.capped_sum-rows.ensures
+    (break_laid (laid-spans l.left.here) c.put_break.ensures (record { spans = refl; marks = refl; writer = refl; same = refl })) c.lay_row-row-in-Some.ensures c.capped_sum-rows.ensures
 
 pub returns : goal.returns
 returns c = rows_none _ _ _ c.loop-row.invariant c.in_default.is refl

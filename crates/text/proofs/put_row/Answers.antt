@@ -1,10 +1,11 @@
 use native.Mathlib.Omega.{arith}
 use mathlib.Core.List.{[], ◌∷◌}
 use Rattle.std.proofs.lemmas.List.{map-append}
-use Rattle.std.proofs.lemmas.Iterator.Consumers.{YieldsList-from_first, YieldsList-end}
+use Rattle.std.proofs.lemmas.Iterator.Consumers.{YieldsList-end}
 use Rattle.meaning.specs.Conversion.{row_spans}
 use Rattle.cells.specs.Packed.{cells_in}
-use Rattle.spans.specs.Spans.{spans_in, spans_left, read_of}
+use Rattle.spans.specs.Spans.{spans_in}
+use Rattle.spans.proofs.Laws.{YieldsList-from_spans}
 use Rattle.text.specs.Laid.{piece_of}
 use Rattle.text.proofs.Laws.{put-none, put_one}
 use Rattle.text.proofs.RowsLaying.{all-read}
@@ -21,5 +22,5 @@ unfolding row_spans
 returns c =
     let l = c.loop-s in
     let cs = c.shown.result.now in
-    let all = YieldsList-end (YieldsList-from_first read_of spans_left (spans_in cs) cc) l.yielded l.s-iterator l.yielded_by c.next.result c.next.new.self c.in-None.is c.next.ensures.steps in
+    let all = YieldsList-end (YieldsList-from_spans (spans_in cs) cc) l.yielded l.s-iterator l.yielded_by c.next.result c.next.new.self c.in-None.is c.next.ensures.steps in
     rw (all-read (cells_in cs) l.yielded all.0, c.shown.ensures.shown) at l.invariant

@@ -12,8 +12,8 @@ returns-then-not-has_room c =
 
 pub returns-in-None : goal.returns-in-None
 returns-in-None c =
-    on-first _ _ _ _ _ c.header-h.ensures c.is_user.ensures c.if-is_user.false c.text_of-part.ensures c.text_end-at.ensures c.has_room.ensures c.if-not-has_room.false c.copy_from_slice.ensures.after c.in-None.is _ c.opening.ensures
+    on-first _ _ _ _ _ c.header-h.ensures c.is_user.ensures c.if-is_user.false c.text_of-part.ensures c.text_end-at.ensures c.has_room.ensures c.if-not-has_room.false c.put_bytes.ensures c.in-None.is _ c.opening.ensures
 
 pub returns-in-Some : goal.returns-in-Some
 returns-in-Some c =
-    on-next _ _ _ _ _ c.header-h.ensures c.is_user.ensures c.if-is_user.false c.text_of-part.ensures c.text_end-at.ensures c.has_room.ensures c.if-not-has_room.false c.copy_from_slice.ensures.after c.in-Some.is _ c.continuing.ensures
+    on-next _ _ _ _ _ c.header-h.ensures c.is_user.ensures c.if-is_user.false c.text_of-part.ensures c.text_end-at.ensures c.has_room.ensures c.if-not-has_room.false c.put_bytes.ensures c.in-Some.is _ c.continuing.ensures

@@ -17,7 +17,7 @@ invariant_of-self c =
     walk_done _ _ p.size p.sound c.args.bytes.now (length c.args.bytes.now / block_size) _ refl p.gsi (c.format-f.ensures ∙ ap (format_of _) c.field.ensures) c.marks.ensures
     (omega (arith, c.min.ensures, c.saturating_sub.ensures)) c.check_more-pass.ensures.laid (search rules) (search rules) c.check_more-pass.auto.text c.put_flags.ensures (omega (arith, c.min-2.ensures, c.saturating_add.ensures)) c.tally-tally.ensures
     in
-    record { size = w.size; sound = w.sound; gsi = p.gsi }
+    record { size = w.size; phase = p.phase; sound = w.sound; gsi = p.gsi }
 
 pub returns-clause-walked : goal.returns-clause-walked
 returns-clause-walked c =

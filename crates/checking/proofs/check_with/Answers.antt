@@ -1,19 +1,22 @@
--- `check_blocks` measures over a buffer of no bytes, and keeps the marks.
+-- `check_with` passes all blocks of a file, measures over a buffer of no bytes, and keeps the marks.
 -- Assumes nothing.
 use Prim.Native.Nat.{ℕ}
+use native.Mathlib.Omega.{arith}
 use mathlib.Core.Path.{◌≡◌, ◌∙◌}
 use mathlib.Core.Bool.{Bool}
 use mathlib.Core.List.{List}
 use Rattle.std.specs.Prelude.{Result}
 use Rattle.std.proofs.Common.{rules}
 use Rattle.meaning.specs.declared.Refusal.{Refusal}
-use Rattle.meaning.specs.Walk.{set_rule, walk, finish, Outcome}
+use Rattle.meaning.specs.Refusals.{no_refusal}
+use Rattle.meaning.specs.Walk.{no_counts, finish, Outcome}
 use Rattle.text.specs.declared.Tally.{Tally}
-use Rattle.closed.specs.Body.{Body, body_of, empty_body, lay_set}
+use Rattle.closed.specs.Body.{Body, empty_body}
 use Rattle.checking.specs.declared.Checked.{Checked}
 use Rattle.checking.specs.declared.blocks.Pass.{Pass}
-use Rattle.checking.specs.Passing.{outcome_of, checked_of}
-use Rattle.checking.proofs.check_blocks.Goals as goal
+use Rattle.checking.specs.Passing.{begun_pass, outcome_of, checked_of}
+use Rattle.checking.proofs.Stepping.{walk-passed}
+use Rattle.checking.proofs.check_with.Goals as goal
 
 -- what was measured, by what the buffers hold after it
 measured :
@@ -23,12 +26,9 @@ measured :
 measured n w text out r e f g = r ∙ rw (e, f, g)
 
 pub returns : goal.returns
+unfolding no_refusal no_counts
 returns c =
-    let p :
-    outcome_of c.with_text_room-w.result c.with_text_room-w.ensures.2.now (body_of c.with_text_room-w.new.value)
-    ≡ walk c.args.f (set_rule c.args.f) (lay_set c.args.f) (body_of c.with_text_room-w.ensures.1.now) c.args.file.now c.args.n =
-    search rules
-    in
-    let q : body_of c.with_text_room-w.ensures.1.now ≡ empty_body = search rules in
-    measured _ _ _ _ (c.checked.ensures c.with_text_room-w.ensures.2.now c.with_text_room-w.new.value.writer.now.out.now) (search rules) c.tally-tally.ensures
-    (p ∙ rw q)
+    let d : c.default.result ≡ begun_pass = search rules in
+    let l = rw (d, c.new-writer.ensures.held, c.new-writer.ensures.at) at c.check_more-w.ensures.laid in
+    measured _ _ _ _ (c.checked.ensures c.check_more-w.new.text c.check_more-w.new.body.writer.now.out.now) (search rules) c.tally-tally.ensures
+    (walk-passed _ _ _ _ empty_body (omega (arith, c.ranges.n)) c.requires c.field-blocks.ensures l)
