@@ -169,19 +169,17 @@ impl<'a> Iterator for Readings<'a> {
     }
 }
 
-// Where the run of plain codes from a position on ends. A test and no `get(start..)` (tried): the proof then finds no end.
+// Where the run of plain codes from a position on ends. By the index and no `position` over the rest of the text, for which five
+// instructions more are made for each token: with them a longest set that rule 15 refuses took a fifth more time, and the bar is a tenth.
 pub fn plain_end(text: &[u8], start: usize) -> usize
     ensures { result ≡ plain_end text.now start }
 {
-    if text.len() <= start {
-        return start;
+    for i in start..text.len() {
+        if !is_plain(text[i]) {
+            return i;
+        }
     }
-    let rest = &text[start..];
-    start
-        + rest
-            .iter()
-            .position(|c| !is_plain(*c))
-            .unwrap_or(rest.len())
+    text.len().max(start)
 }
 
 // Where the run of plain codes after a reading ends. A row end has none, since the row is over.

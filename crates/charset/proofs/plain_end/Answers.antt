@@ -1,35 +1,31 @@
-use Prim.Native.Nat.{ℕ, ◌+◌, ◌-◌}
 use native.Mathlib.Omega.{arith}
-use mathlib.Core.Path.{◌≡◌, refl, sym, ap, ◌∙◌}
-use mathlib.Core.Bool.{true, false}
-use mathlib.Core.List.{List, ◌∷◌}
-use lib.ListN.{length, take, drop, drop_of_length-le, length-drop}
-use borrow.Author.Tests.{tests}
+use mathlib.Core.Path.{sym, ◌∙◌}
+use Rattle.meaning.proofs.ListLaws.{while_more, while_stops, while_ends}
 use Rattle.std.proofs.Common.{rules}
-use Rattle.std.proofs.lemmas.List.{take_all}
-use Rattle.std.proofs.lemmas.Iterator.{YieldsList-from_slice, IsFirst-from_position, index_from_first}
 use Rattle.charset.specs.Plain.{is_plain, plain_end}
-use Rattle.meaning.specs.Lists.{take_while}
 use Rattle.charset.proofs.plain_end.Goals as goal
 
-run_stops : (x : ℕ) (xs : List ℕ) → is_plain x ≡ false → length (take_while is_plain (x ∷ xs)) ≡ 0
-unfolding take_while
-run_stops x xs e = rw (e, take_while)
+pub returns-then-not-is_plain : goal.returns-then-not-is_plain
+returns-then-not-is_plain c =
+    let s = c.args.text.now in
+    let other = sym c.is_plain.ensures ∙ c.if-not-is_plain.true in
+    omega (arith, c.loop-i.invariant.run, while_stops is_plain s c.loop-i.i 0 c.loop-i-test.true other)
 
-run_goes : (x : ℕ) (xs : List ℕ) → is_plain x ≡ true → length (take_while is_plain (x ∷ xs)) ≡ length (take_while is_plain xs) + 1
-unfolding take_while
-run_goes x xs e = rw (e, take_while) (omega arith)
+pub loop-i-init : goal.loop-i-init
+unfolding plain_end
+loop-i-init c = record { from = omega arith; most = omega arith; run = search rules }
 
-pub returns-then-text-start : goal.returns-then-text-start
-unfolding plain_end take_while
-returns-then-text-start c = let h = c.if-text-start.true in rw drop_of_length-le (omega arith)
+pub loop-i-preserved : goal.loop-i-preserved
+loop-i-preserved c =
+    let s = c.args.text.now in
+    let plain = sym c.is_plain.ensures ∙ c.if-not-is_plain.false in
+    record {
+      from = omega (arith, c.loop-i.invariant.from);
+      most = omega (arith, c.loop-i-test.true);
+      run = omega (arith, c.loop-i.invariant.run, while_more is_plain s c.loop-i.i 0 c.loop-i-test.true plain);
+    }
 
 pub returns : goal.returns
-unfolding plain_end
 returns c =
-    let s = c.args.text.now in
-    let rest = take (length s - c.args.start) (drop c.args.start s) in
-    let first = IsFirst-from_position _ _ c.position.result (λ x. is_plain x ≡ false) (λ x. is_plain x ≡ true) c.position.ensures.ran (YieldsList-from_slice rest cc) (λ x q k. search (rules, tests)) (λ x q k. search (rules, tests)) in
-    let e = index_from_first (λ xs. length (take_while is_plain xs)) (λ x. is_plain x ≡ false) (λ x. is_plain x ≡ true) (unfold take_while in refl) run_stops run_goes rest c.position.result first in
-    let whole : rest ≡ drop c.args.start s = take_all _ _ (omega (arith, length-drop c.args.start s)) in
-    omega (arith, c.unwrap_or.ensures ∙ sym e ∙ ap (λ (xs : List ℕ). length (take_while is_plain xs)) whole)
+    let a = c.loop-i.invariant in
+    omega (arith, a.from, a.most, a.run, c.max.ensures, while_ends is_plain c.args.text.now c.loop-i.i (omega arith))
