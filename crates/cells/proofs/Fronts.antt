@@ -43,6 +43,15 @@ box_takes (Switch c) e = absurd (false≢true e)
 box_takes RowEnd e = refl
 box_takes Unlisted e = refl
 
+-- so what takes none leaves the front as it is
+pub front-stays : (t : Token) (front n : ℕ) → takes_cell t ≡ false → front ≡ front_after t front n
+unfolding takes_cell front_after is_box_code is_control_of
+front-stays (Character p) front n e = cc
+front-stays (Control c) front n e = cc
+front-stays (Switch c) front n e = refl
+front-stays RowEnd front n e = cc
+front-stays Unlisted front n e = cc
+
 abbrev pen : Look → Bool → Pen
 pen l hidden = record { look = l; hidden = hidden }
 

