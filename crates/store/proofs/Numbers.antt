@@ -4,6 +4,7 @@ use Prim.Native.Nat.{ℕ, ◌%◌, ◌<◌}
 use native.Mathlib.Omega.{arith}
 use mathlib.Core.Path.{◌≡◌, refl}
 use mathlib.Core.Bool.{cond}
+use mathlib.Core.Logic.{⊎_elim}
 use mathlib.Core.List.{List, ◌∷◌}
 use lib.Dec.{eqb}
 use lib.ListN.{length}
@@ -14,9 +15,12 @@ use Rattle.meaning.proofs.ListLaws.{All, nil, cons}
 use Rattle.words.proofs.Laws.{IsWord}
 use Rattle.sets.specs.declared.Set.{Set}
 use Rattle.std.specs.Prelude.{Option, Some, None}
+use Rattle.store.specs.declared.Phase.{Phase}
 use Rattle.store.specs.declared.State.{State}
 use Rattle.store.specs.Layout.{number_count}
 use Rattle.store.specs.Numbers.{set_in, open_number, numbers_of, time_from, header_from, set_from, current_from, pass_from, state_from}
+use Rattle.store.specs.Phases.{phase_number}
+use Rattle.store.proofs.Phases.{IsCheckPhase, open_phase_is, closed_phase_is}
 use Rattle.store.proofs.Ranges.{TimeRange, HeaderRange, SetRange, InRange}
 
 pub numbers_length : (s : State) → length (numbers_of s) ≡ number_count
@@ -71,7 +75,11 @@ pub numbers_back : (s : State) → InRange s → state_from s.phase (numbers_of 
 unfolding numbers_of state_from pass_from current_from set_from header_from time_from
 numbers_back s r = rw (current_back s.pass.sets.current r.pass.set, mod-eq_of_lt r.pass.least)
 
--- 0 and 1 are numbers of eight bytes
+-- the two phases, and 0 and 1, are numbers of eight bytes
+pub phase_word : (p : Phase) → IsCheckPhase p → IsWord (phase_number p)
+unfolding phase_number
+phase_word p h = ⊎_elim (λ o. rw o (omega (arith, open_phase_is))) (λ c. rw c (omega (arith, closed_phase_is))) h
+
 open_word : (c : Option Set) → IsWord (open_number c)
 unfolding open_number
 open_word None = omega arith

@@ -3,7 +3,7 @@
 use Prim.Native.Nat.{ℕ}
 use mathlib.Core.Path.{◌≡◌, refl, sym, ap, ◌∙◌}
 use mathlib.Core.Bool.{true, false}
-use mathlib.Core.Logic.{inl, inr}
+use mathlib.Core.Logic.{inl, inr, ⊎_elim}
 use Rattle.std.specs.Prelude.{◌⊎◌, is_some, unwrap_or}
 use Rattle.std.proofs.lemmas.Bool.{false≢true}
 use lib.Dec.{eqb}
@@ -68,6 +68,17 @@ two_phases n h =
     by_test (eqb n closed_phase)
     (λ e. inr (rw e refl))
     (λ e. by_test (eqb n open_phase) (λ f. inl (rw (e, f) refl)) (λ f. let z : false ≡ true = rw (f, e) at h in absurd (false≢true z)))
+
+-- a check is in one of two phases
+abbrev pub IsCheckPhase : Phase → Type 0
+IsCheckPhase p = (p ≡ Open) ⊎ (p ≡ Closed)
+
+pub is_phase-number : (p : Phase) → IsCheckPhase p → is_phase (phase_number p) ≡ true
+unfolding phase_number
+is_phase-number p h = ⊎_elim (λ o. rw o open_phase_lem) (λ c. rw c closed-phase) h
+
+pub phase_from-number : (p : Phase) → IsCheckPhase p → phase_from (phase_number p) ≡ p
+phase_from-number p h = ⊎_elim (λ o. rw o phase_from-open) (λ c. rw c phase_from-closed) h
 
 -- a check is closed by its number alone
 is_closed-number : (p : Phase) → is_closed p ≡ eqb (phase_number p) closed_phase

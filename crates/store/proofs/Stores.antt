@@ -23,7 +23,7 @@ use Rattle.store.specs.Numbers.{number_at, numbers_of, state_from, with_phase}
 use Rattle.store.specs.Stores.{state_of, check_in, is_check, check_of}
 use Rattle.store.proofs.Ranges.{InRange}
 use Rattle.store.proofs.Numbers.{numbers_back, numbers_words}
-use Rattle.store.proofs.Phases.{is_closed-from}
+use Rattle.store.proofs.Phases.{IsCheckPhase, phase_from-number, is_closed-from}
 use Rattle.store.proofs.Checks.{check_put}
 
 -- the numbers that were written are read, and the phase is the one that its number tells
@@ -35,8 +35,14 @@ module _ (store : List ℕ) (s : State) (h : store_size ≤ length store) (r : I
       ap (λ (ns : List ℕ). state_from (phase_from (number_at ns 0)) ns) (words-kept store (numbers_of s) (omega arith) (numbers_words s r))
       ∙ ap (λ (t : State). with_phase t p) (numbers_back s r)
 
-  pub state_put : phase_from (phase_number s.phase) ≡ s.phase → state_of (stored store 0 (words_bytes (numbers_of s))) ≡ s
-  state_put e = state_written ∙ ap (with_phase s) e
+  pub state_told : phase_from (phase_number s.phase) ≡ s.phase → state_of (stored store 0 (words_bytes (numbers_of s))) ≡ s
+  state_told e = state_written ∙ ap (with_phase s) e
+
+-- of a check the numbers that were written are read
+pub state_put :
+    (store : List ℕ) (s : State) → store_size ≤ length store → InRange s → IsCheckPhase s.phase
+    → state_of (stored store 0 (words_bytes (numbers_of s))) ≡ s
+state_put store s h r p = state_told store s h r (phase_from-number s.phase p)
 
 -- what is known of the store of a check
 module _ (store : List ℕ) (e : is_check store ≡ true) where

@@ -34,14 +34,14 @@ use Rattle.lumps.specs.Lumps.{rule_now, answer_now, feed}
 use Rattle.lumps.proofs.Cutting.{feed-fed}
 use Rattle.store.specs.contracts.PhasePartialEq.TheImpl as phase_eq
 use Rattle.store.specs.declared.Phase.{Phase}
-use Rattle.store.specs.declared.Phase.TheVariants.{Open, Closed}
+use Rattle.store.specs.declared.Phase.TheVariants.{Open, Closed, Other}
 use Rattle.store.specs.declared.State.{State}
 use Rattle.store.specs.Layout.{marks_at, store_size, is_phase, marks_in, text_in}
 use Rattle.store.specs.Numbers.{numbers_of, state_from}
 use Rattle.store.specs.Phases.{phase_number, is_closed}
 use Rattle.store.specs.Stores.{state_of, state_in, check_in, is_check, check_of}
 use Rattle.store.specs.Tests.{is_sound_state}
-use Rattle.store.proofs.Phases.{open_phase_lem, two_phases}
+use Rattle.store.proofs.Phases.{IsCheckPhase, open_phase_lem, two_phases}
 use Rattle.store.proofs.Sound.{sound_state, first_number}
 use Rattle.store.proofs.Ranges.{InRange}
 use Rattle.store.proofs.Checks.{marks-here}
@@ -84,6 +84,23 @@ module _ (c : Check) where
 abbrev same : Phase → Phase → Bool
 same = phase_eq.ghosts.eq
 
+-- what it tells of any phase, and of that of a check
+pub is-closed : (p : Phase) → true ≡ same p Closed → p ≡ Closed
+is-closed Open e = absurd (false≢true (sym e))
+is-closed Closed e = refl
+is-closed (Other n) e = absurd (false≢true (sym e))
+
+pub opened-phase : (p : Phase) → true ≡ same p Open → p ≡ Open
+opened-phase Open e = refl
+opened-phase Closed e = absurd (false≢true (sym e))
+opened-phase (Other n) e = absurd (false≢true (sym e))
+
+pub is-open : (p : Phase) → IsCheckPhase p → false ≡ same p Closed → p ≡ Open
+is-open p h e = ⊎_elim (λ o. o) (λ c. absurd (false≢true (e ∙ ap (λ (q : Phase). same q Closed) c))) h
+
+pub other-phase : (p : Phase) → IsCheckPhase p → false ≡ same p Open → p ≡ Closed
+other-phase p h e = ⊎_elim (λ o. absurd (false≢true (e ∙ ap (λ (q : Phase). same q Open) o))) (λ c. c) h
+
 -- a store that holds a check, with its numbers
 module _ (store : List ℕ) {s : State} (v : state_in store ≡ Some s) where
   abbrev Known : Type 0
@@ -107,17 +124,17 @@ module _ (store : List ℕ) {s : State} (v : state_in store ≡ Some s) where
   phase_here = rw known.1 (two_phases _ (check_phase store known.0))
 
   -- what the two comparisons tell of its phase
-  pub is-open : {b : Bool} → b ≡ same s.phase Closed → b ≡ false → s.phase ≡ Open
-  is-open e f = ⊎_elim (λ o. o) (λ c. absurd (false≢true (sym f ∙ e ∙ ap (λ (p : Phase). same p Closed) c))) phase_here
+  pub held-open : {b : Bool} → b ≡ same s.phase Closed → b ≡ false → s.phase ≡ Open
+  held-open e f = is-open s.phase phase_here (sym f ∙ e)
 
-  pub is-closed : {b : Bool} → b ≡ same s.phase Closed → b ≡ true → s.phase ≡ Closed
-  is-closed e f = ⊎_elim (λ o. absurd (false≢true (sym (ap (λ (p : Phase). same p Closed) o) ∙ sym e ∙ f))) (λ c. c) phase_here
+  pub held-closed : {b : Bool} → b ≡ same s.phase Closed → b ≡ true → s.phase ≡ Closed
+  held-closed e f = is-closed s.phase (sym f ∙ e)
 
-  pub opened-phase : {b : Bool} → b ≡ same s.phase Open → b ≡ true → s.phase ≡ Open
-  opened-phase e f = ⊎_elim (λ o. o) (λ c. absurd (false≢true (sym (ap (λ (p : Phase). same p Open) c) ∙ sym e ∙ f))) phase_here
+  pub held-opened : {b : Bool} → b ≡ same s.phase Open → b ≡ true → s.phase ≡ Open
+  held-opened e f = opened-phase s.phase (sym f ∙ e)
 
-  pub other-phase : {b : Bool} → b ≡ same s.phase Open → b ≡ false → s.phase ≡ Closed
-  other-phase e f = ⊎_elim (λ o. absurd (false≢true (sym f ∙ e ∙ ap (λ (p : Phase). same p Open) o))) (λ c. c) phase_here
+  pub held-other : {b : Bool} → b ≡ same s.phase Open → b ≡ false → s.phase ≡ Closed
+  held-other e f = other-phase s.phase phase_here (sym f ∙ e)
 
   check_here : check_of store ≡ Some (check_in s store)
   check_here = rw known.1 (check_of_lem store known.0)
