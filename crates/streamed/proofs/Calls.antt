@@ -6,7 +6,7 @@ use mathlib.Core.Path.{◌≡◌, refl, sym, ap, ◌∙◌}
 use mathlib.Core.Bool.{Bool, true, false, cond, not}
 use mathlib.Core.Logic.{⊎_elim}
 use mathlib.Core.List.{List, [], ◌∷◌}
-use Rattle.std.specs.Prelude.{◌⊎◌, Option, Some, None}
+use Rattle.std.specs.Prelude.{Option, Some, None}
 use lib.Dec.{eqb}
 use lib.ListN.{length, length-replicate}
 use borrow.Author.Tests.{eq-eqb}
@@ -119,7 +119,8 @@ module _ (store : List ℕ) {s : State} (v : state_in store ≡ Some s) where
   pub held_phase : is_phase (phase_number s.phase) ≡ true
   held_phase = rw (first_number store known.1) (check_phase store known.0)
 
-  phase_here : (s.phase ≡ Open) ⊎ (s.phase ≡ Closed)
+  -- and its phase is one of the two
+  pub phase_here : IsCheckPhase s.phase
   unfolding state_from
   phase_here = rw known.1 (two_phases _ (check_phase store known.0))
 
