@@ -61,18 +61,19 @@ phase_from-other n h =
     (λ e. let z : true ≡ false = rw e at h in absurd (false≢true (sym z)))
     (λ e. by_test (eqb n closed_phase) (λ f. let z : true ≡ false = rw (e, f) at h in absurd (false≢true (sym z))) (λ f. rw (f, e) refl))
 
+-- a check is in one of two phases
+abbrev pub IsCheckPhase : Phase → Type 0
+IsCheckPhase p = (p ≡ Open) ⊎ (p ≡ Closed)
+
 -- a number that spells a phase is read as one of the two
-pub two_phases : (n : ℕ) → is_phase n ≡ true → (phase_from n ≡ Open) ⊎ (phase_from n ≡ Closed)
+pub two_phases : (n : ℕ) → is_phase n ≡ true → IsCheckPhase (phase_from n)
 unfolding phase_from
 two_phases n h =
     by_test (eqb n closed_phase)
     (λ e. inr (rw e refl))
     (λ e. by_test (eqb n open_phase) (λ f. inl (rw (e, f) refl)) (λ f. let z : false ≡ true = rw (f, e) at h in absurd (false≢true z)))
 
--- a check is in one of two phases
-abbrev pub IsCheckPhase : Phase → Type 0
-IsCheckPhase p = (p ≡ Open) ⊎ (p ≡ Closed)
-
+-- and what is written of one of the two is read
 pub is_phase-number : (p : Phase) → IsCheckPhase p → is_phase (phase_number p) ≡ true
 unfolding phase_number
 is_phase-number p h = ⊎_elim (λ o. rw o open_phase_lem) (λ c. rw c closed-phase) h
